@@ -1,0 +1,120 @@
+-- Document 01, 'The disc this work handles': tracks, sectors, sector numbers, and where sectors lie in an image.
+-- The only file that knows how many sectors a track has, the passing order, and byte positions in an image.
+-- Assumes nothing.
+use Prim.Native.Nat.{ℕ, zero, suc, _+_, _*_, _/_, _%_, _-_}
+use mathlib.Core.Bool.{Bool, not, _&&_, cond}
+use mathlib.Core.List.{List, [], _∷_}
+use lib.ListN.{getD, set, take, drop}
+use lib.Dec.{eqb, leb, ltb}
+use Rattle.format.specs.Lists.{joined}
+use Rattle.format.specs.Refusals.{Try, Refusal, SIZE, ok, refuse_if_, _>>_}
+
+-- ---- tracks and sectors
+
+-- What a kind of disc has on each track: how many sectors, and the order in which a blank disc's chain passes them.
+pub record Format : Type 0 where
+  pub perTrack : ℕ
+  pub order : List ℕ
+
+-- "tracks .. of 10 sectors, numbered 1 to 10"; "On each track the chain passes 1, 4, 7, 10, 3, 6, 9, 2, 5, 8".
+unfoldable pub ten : Format
+ten = record { perTrack = 10; order = 1 ∷ 4 ∷ 7 ∷ 10 ∷ 3 ∷ 6 ∷ 9 ∷ 2 ∷ 5 ∷ 8 ∷ [] }
+
+-- One side of a disc: a format and T, the number of tracks.
+pub record Geometry : Type 0 where
+  pub tracks : ℕ
+  pub perTrack : ℕ
+  pub order : List ℕ
+
+-- a disc of the format F with T tracks
+abbrev pub tracked : Format → ℕ → Geometry
+tracked F T = record { tracks = T; perTrack = F .perTrack; order = F .order }
+
+-- the number of all sectors
+abbrev pub sectors : Geometry → ℕ
+sectors G = G .perTrack * G .tracks
+
+-- Refusal 1: "image length isn't 2,560 times 1 to 80".
+unfoldable pub geometry : Format → ℕ → Try Refusal Geometry
+geometry F n = do
+  let track = 256 * F .perTrack
+  refuse SIZE if not (eqb (n % track) 0 && leb 1 (n / track) && leb (n / track) 80)
+  ok (tracked F (n / track))
+
+-- "Track t, sector s is sector number 10t + s - 1".
+abbrev pub sectorNumber : Geometry → ℕ → ℕ → ℕ
+sectorNumber G t s = G .perTrack * t + s - 1
+
+-- ".. and starts at 256 times that number." (the law `sector-cut`: this is where `cut` finds the sector)
+abbrev pub startOf : Geometry → ℕ → ℕ
+startOf G n = 256 * n
+
+-- "On the disc" means track below T, sector 1 to 10.
+abbrev pub onDisc : Geometry → ℕ → ℕ → Bool
+onDisc G t s = ltb t (G .tracks) && leb 1 s && leb s (G .perTrack)
+
+-- the track of a sector number
+abbrev pub trackOf : Geometry → ℕ → ℕ
+trackOf G n = n / G .perTrack
+
+-- its sector on the track
+abbrev pub sectorOf : Geometry → ℕ → ℕ
+sectorOf G n = n % G .perTrack + 1
+
+-- What a track and a sector byte lead to: nothing, a sector of the disc by its number, or no sector of the disc.
+pub data Next : Type 0 where
+  stop : Next
+  go : ℕ → Next
+  off : Next
+
+-- "sector byte (byte 1) zero ends a chain, whatever the track byte"; a pointer's sector byte 0 likewise means none.
+unfoldable pub pointed : Geometry → ℕ → ℕ → Next
+pointed G t s = cond (eqb s 0) stop (cond (onDisc G t s) (go (sectorNumber G t s)) off)
+
+-- ---- the sectors of an image
+
+-- A disc is the list of its sectors by number, each 256 bytes.
+abbrev pub Disc : Type 0
+Disc = List (List ℕ)
+
+-- n sectors "of 256 bytes", one after the other
+unfoldable pub chunks : ℕ → List ℕ → Disc
+chunks zero xs = []
+chunks (suc n) xs = take 256 xs ∷ chunks n (drop 256 xs)
+
+-- the sectors of an image
+unfoldable pub cut : Geometry → List ℕ → Disc
+cut G image = chunks (sectors G) image
+
+-- the image of sectors
+unfoldable pub flat : Geometry → Disc → List ℕ
+flat G d = joined d
+
+-- the bytes of sector number n
+abbrev pub sector : Disc → ℕ → List ℕ
+sector d n = getD d n []
+
+-- a part of an image: where it starts, and how many bytes it has
+pub record Part : Type 0 where
+  pub at : ℕ
+  pub size : ℕ
+
+-- "the 254 bytes after a sector's link where they lie in the image" (bytes 2 to 255)
+abbrev pub bodyPart : Geometry → ℕ → Part
+bodyPart G n = record { at = startOf G n + 2; size = 254 }
+
+-- the bytes of a part
+abbrev pub bytesOf : Part → List ℕ → List ℕ
+bytesOf p image = take (p .size) (drop (p .at) image)
+
+-- ---- writes
+
+-- one sector with all its bytes as they stand afterwards
+pub record Write : Type 0 where
+  pub at : ℕ
+  pub bytes : List ℕ
+
+-- the disc after writes, in their order
+abbrev pub written : List Write → Disc → Disc
+written [] d = d
+written (w ∷ ws) d = written ws (set d (w .at) (w .bytes))

@@ -1,0 +1,143 @@
+-- Document 01, 'The free-sector sum of demand 3': runs of commands, the history's book, and the sum. "The history is a plain book": nothing
+-- here looks at an image but for the start's.
+-- Assumes nothing.
+use Prim.Native.Nat.{ℕ, zero, suc, _+_, _*_, _/_, _-_, max}
+use mathlib.Core.Bool.{Bool, not, cond}
+use mathlib.Core.Option.{Option, none, some, Option·getD}
+use mathlib.Core.List.{List, [], _∷_, map}
+use lib.ListN.{length}
+use lib.Dec.{eqb, ltb}
+use Rattle.format.specs.Lists.{any, filter, same, sum}
+use Rattle.format.specs.Refusals.{Try, Refusal, NAME, TAKEN, MODULE, ROOM, NOT-PLAIN, SHORT, refused, ok, _>>=_, _>>_, refuse_if_, _orRefuse_}
+use Rattle.format.specs.Geometry.{Format, Geometry, sectors, Disc}
+use Rattle.format.specs.Names.{stored}
+use Rattle.format.specs.Layout.{slotsEach, nameOf, lengthOf, directory, entries}
+use Rattle.format.specs.Modules.{Module, allowed, sectorsFor}
+use Rattle.format.specs.Effects.{reading}
+use Rattle.format.specs.Calls.{Answer, afterList, afterRead, afterSave, afterDelete, afterRename, afterProtect, afterCheck, viewNumber}
+
+-- ---- runs
+
+-- "The list gives each command's arguments as handed in: the bytes of every name, sheet and lent buffer, and every number". A module is a
+-- save's page, start, transfer and sheet. "A blank disc is itself a start", and so no command of a run.
+pub data Command : Type 0 where
+  list : (buffer : List ℕ) → Command
+  read : (name buffer : List ℕ) → Command
+  save : (name : List ℕ) (m : Module) → Command
+  delete : (name : List ℕ) → Command
+  rename : (old new : List ℕ) → Command
+  protect : (name : List ℕ) (on : ℕ) → Command
+  check : Command
+  view : (track sector : ℕ) → Command
+
+-- a call that leaves the image as it was
+abbrev pub unchanged : List ℕ → ℕ → Answer
+unchanged image n = record { number = n; image = image }
+
+module _ (F : Format) where
+  -- what a command answers, and the image as it leaves it: the definitions that the public calls' contracts cite
+  unfoldable pub step : List ℕ → Command → Answer
+  step image (list buffer) = unchanged image (afterList F image buffer .number)
+  step image (read name buffer) = unchanged image (afterRead F image name buffer .number)
+  step image (save name m) = afterSave F image name m
+  step image (delete name) = afterDelete F image name
+  step image (rename old new) = afterRename F image old new
+  step image (protect name on) = afterProtect F image name on
+  step image check = unchanged image (afterCheck F image .number)
+  step image (view t s) = unchanged image (viewNumber F image t s)
+
+  -- the image after a list of commands, each on the image as the one before left it
+  unfoldable pub run : List ℕ → List Command → List ℕ
+  run image [] = image
+  run image (c ∷ cs) = run (step image c .image) cs
+
+-- ---- the book
+
+-- "each standing file's nine name bytes, sector count and reading: page, start, end, transfer, L and the L bytes, or 9": none is 9
+pub record File : Type 0 where
+  pub name : List ℕ
+  pub count : ℕ
+  pub reading : Option Module
+
+-- the standing files, and P, "the most files that stood at any moment from the start on"
+pub record Book : Type 0 where
+  pub files : List File
+  pub peak : ℕ
+
+-- the book with these files standing now
+abbrev pub standing : Book → List File → Book
+standing b fs = record { files = fs; peak = max (b .peak) (length fs) }
+
+-- a file of this name
+abbrev pub named : List ℕ → File → Bool
+named nine f = same (f .name) nine
+
+-- the stored name of an accepted command
+abbrev pub nineOf : List ℕ → List ℕ
+nineOf typed = Option·getD (stored typed) []
+
+-- the file with its new name, if it has the old one
+abbrev pub renamed : List ℕ → List ℕ → File → File
+renamed old new f = record { name = cond (named old f) new (f .name); count = f .count; reading = f .reading }
+
+-- "An accepted save adds its stored name, its module's count, and its module as the reading. An accepted delete takes out the file of that
+-- name; an accepted rename changes its name bytes. Any other command .. changes nothing."
+unfoldable pub accepted : Book → Command → Book
+accepted b (list buffer) = b
+accepted b (read name buffer) = b
+accepted b (save name m) = standing b (record { name = nineOf name; count = sectorsFor (length (m .bytes)); reading = some m } ∷ b .files)
+accepted b (delete name) = standing b (filter (λ f. not (named (nineOf name) f)) (b .files))
+accepted b (rename old new) = standing b (map (renamed (nineOf old) (nineOf new)) (b .files))
+accepted b (protect name on) = b
+accepted b check = b
+accepted b (view t s) = b
+
+-- "whether it was accepted (answered 0)"; "a refused one, changes nothing"
+unfoldable pub entered : Book → Command → (answer : ℕ) → Book
+entered b c zero = accepted b c
+entered b c (suc k) = b
+
+-- "At the start these are the entries', each reading as read with a buffer of 65,536 bytes gives it." (read finds the entry of a name,
+-- gives 9 exactly where `reading` is none, and no module has more than 65,536 bytes)
+unfoldable pub openingBook : Geometry → Disc → Book
+openingBook G d =
+    let fs : List File = map (λ s. record { name = nameOf s; count = lengthOf s; reading = reading G d s }) (entries G d) in
+    record { files = fs; peak = length fs }
+
+-- the book after a list of commands, fed each command and its answer
+unfoldable pub bookAfter : Format → Book → List ℕ → List Command → Book
+bookAfter F b image [] = b
+bookAfter F b image (c ∷ cs) = bookAfter F (entered b c (step F image c .number)) (step F image c .image) cs
+
+-- what read is to give of a file of the book, lent so much room: "for a reading of 9, read gives 9; otherwise 10 if the lent buffer is
+-- shorter than L, else 0 with the reading"
+unfoldable pub says : Option Module → (room : ℕ) → Try Refusal Module
+says none room = refused NOT-PLAIN
+says (some m) room = refuse SHORT if ltb room (length (m .bytes)) >> ok m
+
+-- ---- the sum
+
+module _ (G : Geometry) (start : Disc) (b : Book) where
+  -- "Directory is the larger of its size at the start and P/15 rounded up"
+  unfoldable pub sumDirectory : ℕ
+  sumDirectory = max (length (directory G start)) ((b .peak + (slotsEach - 1)) / slotsEach)
+
+  -- "Files is the sum of the sector counts of the files now standing"
+  unfoldable pub sumFiles : ℕ
+  sumFiles = sum (map (λ f. f .count) (b .files))
+
+  -- "Free = 10T - 1 - directory - files."
+  unfoldable pub sumFree : ℕ
+  sumFree = sectors G - 1 - sumDirectory - sumFiles
+
+  -- "A save needs the sectors of its module, and one more if the files now standing are 15 times Directory."
+  unfoldable pub sumNeed : Module → ℕ
+  sumNeed m = sectorsFor (length (m .bytes)) + cond (eqb (length (b .files)) (slotsEach * sumDirectory)) 1 0
+
+  -- What a save answers by the book: "refused for room exactly when that sum is too small", where no refusal that ranks before applies.
+  unfoldable pub saveSays : (name : List ℕ) (m : Module) → Try Refusal (Unit {0})
+  saveSays name m = do
+    nine ← stored name orRefuse NAME
+    refuse MODULE if not (allowed m)
+    refuse TAKEN if any (named nine) (b .files)
+    refuse ROOM if ltb sumFree (sumNeed m)

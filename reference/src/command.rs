@@ -1,0 +1,119 @@
+//! A command with its arguments as handed in, and what it answers.
+
+use crate::{Checked, Listed, Reading};
+
+/// A lent buffer before the call: `length` times the byte `fill`.
+#[derive(Debug, Clone, Copy, PartialEq, Eq)]
+pub struct Buffer {
+    pub length: usize,
+    pub fill: u8,
+}
+
+impl Buffer {
+    pub fn lend(self) -> Vec<u8> {
+        vec![self.fill; self.length]
+    }
+}
+
+#[derive(Debug, Clone, PartialEq, Eq)]
+pub enum Command {
+    Check,
+    List {
+        buffer: Buffer,
+    },
+    Read {
+        name: Vec<u8>,
+        buffer: Buffer,
+    },
+    Save {
+        name: Vec<u8>,
+        page: u32,
+        start: u16,
+        transfer: u16,
+        sheet: Vec<u8>,
+    },
+    Delete {
+        name: Vec<u8>,
+    },
+    Rename {
+        old: Vec<u8>,
+        new: Vec<u8>,
+    },
+    Protect {
+        name: Vec<u8>,
+        on: u32,
+    },
+    Blank {
+        name: Vec<u8>,
+    },
+    View {
+        track: u32,
+        sector: u32,
+    },
+}
+
+/// A command's answer, with the lent buffer or the view after the call.
+#[derive(Debug, Clone, PartialEq, Eq)]
+pub enum Answer {
+    Number(u32),
+    Checked(Checked),
+    Listed(Listed, Vec<u8>),
+    Read(Reading, Vec<u8>),
+    Viewed(u32, Vec<u8>),
+}
+
+impl Answer {
+    pub fn number(&self) -> u32 {
+        match self {
+            Answer::Number(number) | Answer::Viewed(number, _) => *number,
+            Answer::Checked(checked) => checked.number,
+            Answer::Listed(listed, _) => listed.number,
+            Answer::Read(reading, _) => reading.number,
+        }
+    }
+
+    pub fn accepted(&self) -> bool {
+        self.number() == 0
+    }
+}
+
+impl Command {
+    pub fn run(&self, image: &mut [u8]) -> Answer {
+        match self {
+            Command::Check => Answer::Checked(crate::check(image)),
+            Command::List { buffer } => {
+                let mut lent = buffer.lend();
+                Answer::Listed(crate::list(image, &mut lent), lent)
+            }
+            Command::Read { name, buffer } => {
+                let mut lent = buffer.lend();
+                Answer::Read(crate::read(image, name, &mut lent), lent)
+            }
+            Command::View { track, sector } => Answer::Viewed(
+                crate::view_number(image, *track, *sector),
+                crate::view(image, *track, *sector).to_vec(),
+            ),
+            writing => Answer::Number(writing.run_writing(image)),
+        }
+    }
+
+    /// The commands that may change the image; the others leave it and give 0.
+    fn run_writing(&self, image: &mut [u8]) -> u32 {
+        match self {
+            Command::Save {
+                name,
+                page,
+                start,
+                transfer,
+                sheet,
+            } => crate::save(image, name, *page, *start, *transfer, sheet),
+            Command::Delete { name } => crate::delete(image, name),
+            Command::Rename { old, new } => crate::rename(image, old, new),
+            Command::Protect { name, on } => crate::protect(image, name, *on),
+            Command::Blank { name } => crate::blank(image, name),
+            Command::Check | Command::List { .. } | Command::Read { .. } | Command::View { .. } => {
+                0
+            }
+        }
+    }
+}

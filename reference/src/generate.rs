@@ -1,0 +1,14 @@
+//! Seeded generators of discs, sound and damaged, and of command lists.
+
+mod commands;
+mod damage;
+mod discs;
+mod files;
+mod names;
+mod random;
+
+pub use commands::{command, command_list};
+pub use damage::{break_rule, damaged_disc, flip_byte, wrong_length};
+pub use discs::sound_disc;
+pub use names::{fresh_name, illegal_name, standing_names, typed_form};
+pub use random::Random;

@@ -1,0 +1,356 @@
+//! The history: a plain book of a run, and what it claims at each moment.
+
+use crate::command::Command;
+use crate::disc::{word, FREE_COUNT};
+use crate::generate::typed_form;
+use crate::{check, list, read, save, Reading};
+
+const SLOTS_PER_DIRECTORY_SECTOR: usize = 15;
+const WHOLE_PAGE: usize = 65_536;
+
+/// What a standing file reads as.
+#[derive(Debug, Clone, PartialEq, Eq)]
+pub enum BookReading {
+    /// Read answers 0 with these numbers and these bytes.
+    Module(Reading, Vec<u8>),
+    /// Read answers 9.
+    NotPlain,
+}
+
+#[derive(Debug, Clone, PartialEq, Eq)]
+pub struct StandingFile {
+    pub name: [u8; 9],
+    pub sectors: usize,
+    pub reading: BookReading,
+}
+
+/// Fed the starting image, each command's arguments and whether the command
+/// was accepted; it never looks at the image again.
+#[derive(Debug, Clone, PartialEq, Eq)]
+pub struct Book {
+    sectors_on_disc: usize,
+    directory_at_start: usize,
+    /// The most files that stood at any moment from the start on.
+    peak: usize,
+    files: Vec<StandingFile>,
+}
+
+impl Book {
+    /// The book of a run that starts with this image; none if it isn't sound.
+    pub fn start(image: &[u8]) -> Option<Book> {
+        let checked = check(image);
+        if (checked.number, checked.rule) != (0, 0) {
+            return None;
+        }
+        let files = files_at_start(image);
+        Some(Book {
+            sectors_on_disc: image.len() / 256,
+            directory_at_start: follow(image, pointer(image, 0x12))?.len(),
+            peak: files.len(),
+            files,
+        })
+    }
+
+    pub fn standing(&self) -> &[StandingFile] {
+        &self.files
+    }
+
+    /// Directory sectors: those of the start, or as many as the peak needed.
+    pub fn directory(&self) -> usize {
+        let for_peak = (self.peak + SLOTS_PER_DIRECTORY_SECTOR - 1) / SLOTS_PER_DIRECTORY_SECTOR;
+        self.directory_at_start.max(for_peak)
+    }
+
+    pub fn file_sectors(&self) -> usize {
+        self.files.iter().map(|file| file.sectors).sum()
+    }
+
+    /// The free-sector sum, 10T - 1 - directory - files. Sound runs never
+    /// make it negative.
+    pub fn free(&self) -> usize {
+        (self.sectors_on_disc - 1).saturating_sub(self.directory() + self.file_sectors())
+    }
+
+    /// The sectors that a save of `length` bytes needs now.
+    pub fn need(&self, length: usize) -> usize {
+        let full = self.files.len() == SLOTS_PER_DIRECTORY_SECTOR * self.directory();
+        module_sectors(length) + usize::from(full)
+    }
+
+    /// Enters a command. A refused one changes nothing.
+    pub fn record(&mut self, command: &Command, accepted: bool) {
+        if !accepted {
+            return;
+        }
+        match command {
+            Command::Save {
+                name,
+                page,
+                start,
+                transfer,
+                sheet,
+            } => self.add(name, *page, (*start, *transfer), sheet),
+            Command::Delete { name } => {
+                let gone = stored(name);
+                self.files.retain(|file| file.name != gone);
+            }
+            Command::Rename { old, new } => {
+                let old = stored(old);
+                for file in self.files.iter_mut().filter(|file| file.name == old) {
+                    file.name = stored(new);
+                }
+            }
+            Command::Blank { .. } => self.restart_blank(),
+            Command::Check
+            | Command::List { .. }
+            | Command::Read { .. }
+            | Command::Protect { .. }
+            | Command::View { .. } => {}
+        }
+    }
+
+    fn add(&mut self, name: &[u8], page: u32, (start, transfer): (u16, u16), sheet: &[u8]) {
+        let start = u32::from(start);
+        let reading = Reading {
+            number: 0,
+            page,
+            start,
+            end: start + sheet.len() as u32 - 1,
+            transfer: u32::from(transfer),
+            length: sheet.len() as u32,
+        };
+        self.files.push(StandingFile {
+            name: stored(name),
+            sectors: module_sectors(sheet.len()),
+            reading: BookReading::Module(reading, sheet.to_vec()),
+        });
+        self.peak = self.peak.max(self.files.len());
+    }
+
+    /// A blank disc is itself a start: one directory sector and no file.
+    fn restart_blank(&mut self) {
+        self.directory_at_start = 1;
+        self.peak = 0;
+        self.files.clear();
+    }
+}
+
+/// The module formula, as the document words it.
+fn module_sectors(length: usize) -> usize {
+    if length <= 245 {
+        1
+    } else {
+        1 + (length - 245 + 252) / 253
+    }
+}
+
+/// The nine bytes of a name that a command accepted.
+fn stored(typed: &[u8]) -> [u8; 9] {
+    let mut parts = typed.split(|&byte| byte == b'.');
+    let mut name = [b' '; 9];
+    for (at, part) in [0, 6].into_iter().zip(&mut parts) {
+        name[at..at + part.len()].copy_from_slice(part);
+    }
+    name
+}
+
+fn files_at_start(image: &[u8]) -> Vec<StandingFile> {
+    let mut records = vec![0; 14 + 13 * SLOTS_PER_DIRECTORY_SECTOR * image.len() / 256 + 1];
+    let listed = list(image, &mut records);
+    records[14..listed.length as usize - 1]
+        .chunks_exact(13)
+        .map(|record| file_at_start(image, record))
+        .collect()
+}
+
+fn file_at_start(image: &[u8], record: &[u8]) -> StandingFile {
+    let mut name = [0; 9];
+    name.copy_from_slice(&record[1..10]);
+    let mut buffer = vec![0; WHOLE_PAGE];
+    let reading = read(image, &typed_form(&name), &mut buffer);
+    StandingFile {
+        name,
+        sectors: usize::from(word(record, 10)),
+        reading: if reading.number == 0 {
+            buffer.truncate(reading.length as usize);
+            BookReading::Module(reading, buffer)
+        } else {
+            BookReading::NotPlain
+        },
+    }
+}
+
+/// A pointer's track and sector, which stand sector first.
+fn pointer(image: &[u8], at: usize) -> (u8, u8) {
+    (image[at + 1], image[at])
+}
+
+/// The sector numbers from a track and sector to the end link; nothing if the
+/// chain leaves the disc or is longer than it.
+fn follow(image: &[u8], head: (u8, u8)) -> Option<Vec<usize>> {
+    let mut met = Vec::new();
+    let (mut track, mut sector) = head;
+    while sector != 0 {
+        let number = usize::from(track) * 10 + usize::from(sector) - 1;
+        if sector > 10 || number >= image.len() / 256 || met.len() == image.len() / 256 {
+            return None;
+        }
+        met.push(number);
+        track = image[number * 256];
+        sector = image[number * 256 + 1];
+    }
+    Some(met)
+}
+
+/// What is wrong at one moment of a run, if the image is not as the book of
+/// the run claims.
+pub fn moment_fault(image: &[u8], book: &Book) -> Option<String> {
+    if image.len() != book.sectors_on_disc * 256 {
+        return Some("the image is not of the starting size".to_string());
+    }
+    places_fault(image, book)
+        .or_else(|| room_fault(image, book))
+        .or_else(|| readings_fault(image, book))
+        .or_else(|| absent_fault(image, book))
+}
+
+/// The sectors met by following each chain of an image to its end link.
+struct Places {
+    directory: Vec<usize>,
+    files: Vec<Vec<usize>>,
+    free: Vec<usize>,
+}
+
+fn places(image: &[u8]) -> Option<Places> {
+    let directory = follow(image, pointer(image, 0x12))?;
+    let files: Option<Vec<Vec<usize>>> = file_heads(image, &directory)
+        .into_iter()
+        .map(|head| follow(image, head))
+        .collect();
+    Some(Places {
+        directory,
+        files: files?,
+        free: follow(image, pointer(image, 0x10))?,
+    })
+}
+
+/// Every sector in exactly one place, and the free sectors as the sum says.
+fn places_fault(image: &[u8], book: &Book) -> Option<String> {
+    let places = match places(image) {
+        Some(places) => places,
+        None => return Some("a chain leaves the disc or does not end".to_string()),
+    };
+    let mut met = vec![0; image.len() / 256];
+    let in_files = places.files.iter().flatten();
+    for &number in in_files.chain(&places.directory).chain(&places.free) {
+        met[number] += 1;
+    }
+    let counted = usize::from(word(image, FREE_COUNT));
+    let (chained, sum) = (places.free.len(), book.free());
+    if met[0] != 0 || met[1..].iter().any(|&times| times != 1) {
+        Some(format!("sectors are not met once each: {met:?}"))
+    } else if places.files.len() != book.files.len() {
+        Some(format!("{} entries stand", places.files.len()))
+    } else if chained != sum || counted != sum {
+        Some(format!("free: chain {chained}, count {counted}, sum {sum}"))
+    } else {
+        None
+    }
+}
+
+/// The first sector's track and sector of each entry, in directory order.
+fn file_heads(image: &[u8], directory: &[usize]) -> Vec<(u8, u8)> {
+    let slots = directory
+        .iter()
+        .flat_map(|number| (0..15).map(move |index| number * 256 + 3 + 16 * index));
+    slots
+        .filter(|&slot| image[slot..slot + 16] != [0; 16])
+        .map(|slot| pointer(image, slot + 11))
+        .collect()
+}
+
+/// A save of a new name is accepted exactly when its need is within the sum.
+fn room_fault(image: &[u8], book: &Book) -> Option<String> {
+    let name = absent_names(book).next()?;
+    let free = book.free();
+    let mut lengths = vec![1, 245, 246, 499];
+    for sectors in free.saturating_sub(1).max(1)..=free + 1 {
+        let most = 245 + 253 * (sectors - 1);
+        lengths.extend([most, most + 1]);
+    }
+    lengths
+        .into_iter()
+        .filter(|&length| length <= WHOLE_PAGE)
+        .find_map(|length| {
+            let answer = save(&mut image.to_vec(), &name, 0, 0, 0, &vec![7; length]);
+            let expected = if book.need(length) <= free { 0 } else { 8 };
+            (answer != expected)
+                .then(|| format!("save of {length} bytes with {free} free: {answer}"))
+        })
+}
+
+/// Every file in the book reads as the book says.
+fn readings_fault(image: &[u8], book: &Book) -> Option<String> {
+    book.files.iter().find_map(|file| {
+        let length = match &file.reading {
+            BookReading::Module(reading, _) => reading.length as usize,
+            BookReading::NotPlain => 300,
+        };
+        let lengths = [0, length - 1, length, length + 3];
+        lengths
+            .iter()
+            .find_map(|&lent| reading_fault(image, file, lent))
+    })
+}
+
+fn reading_fault(image: &[u8], file: &StandingFile, lent: usize) -> Option<String> {
+    const FILL: u8 = 0xA5;
+    let mut buffer = vec![FILL; lent];
+    let answer = read(image, &typed_form(&file.name), &mut buffer);
+    let mut expected_buffer = vec![FILL; lent];
+    let expected = match &file.reading {
+        BookReading::NotPlain => refused(9),
+        BookReading::Module(_, bytes) if lent < bytes.len() => refused(10),
+        BookReading::Module(reading, bytes) => {
+            expected_buffer[..bytes.len()].copy_from_slice(bytes);
+            *reading
+        }
+    };
+    let right = answer == expected && buffer == expected_buffer;
+    (!right).then(|| format!("read of {:?} with {lent}: {answer:?}", file.name))
+}
+
+fn refused(number: u32) -> Reading {
+    Reading {
+        number,
+        page: 0,
+        start: 0,
+        end: 0,
+        transfer: 0,
+        length: 0,
+    }
+}
+
+/// Legal names that are not in the book give 4.
+fn absent_fault(image: &[u8], book: &Book) -> Option<String> {
+    absent_names(book).find_map(|name| {
+        let answer = read(image, &name, &mut [0; 8]);
+        (answer != refused(4)).then(|| format!("absent {name:?} gives {answer:?}"))
+    })
+}
+
+fn absent_names(book: &Book) -> impl Iterator<Item = Vec<u8>> + '_ {
+    const CANDIDATES: [&[u8]; 7] = [
+        b"A",
+        b"B.C",
+        b"AB",
+        b"A.B",
+        b"ZZZZZZ.ZZZ",
+        b"QQQQQQ",
+        b"9.000",
+    ];
+    CANDIDATES
+        .iter()
+        .map(|typed| typed.to_vec())
+        .filter(move |typed| book.files.iter().all(|file| file.name != stored(typed)))
+}

@@ -1,0 +1,128 @@
+//! A second, independent program for TANDOS 65 disc images.
+//!
+//! The public calls work on plain bytes and answer in numbers: 0 is done, any
+//! other number is a refusal and leaves all lent memory as it was. Any bytes
+//! may be handed in.
+
+#![forbid(unsafe_code)]
+
+mod check;
+pub mod command;
+mod commands;
+mod directory;
+mod disc;
+pub mod generate;
+pub mod history;
+mod module;
+mod name;
+mod refusal;
+mod save;
+
+use disc::Disc;
+
+/// The check's answer: `rule` is the lowest broken rule, or 0 when sound.
+#[derive(Debug, Clone, Copy, PartialEq, Eq)]
+pub struct Checked {
+    pub number: u32,
+    pub rule: u32,
+}
+
+/// A list's answer: `length` bytes of records stand in the buffer.
+#[derive(Debug, Clone, Copy, PartialEq, Eq)]
+pub struct Listed {
+    pub number: u32,
+    pub length: u32,
+}
+
+/// A read's answer: `length` bytes of the module stand in the buffer.
+#[derive(Debug, Clone, Copy, PartialEq, Eq)]
+pub struct Reading {
+    pub number: u32,
+    pub page: u32,
+    pub start: u32,
+    pub end: u32,
+    pub transfer: u32,
+    pub length: u32,
+}
+
+/// Checks the eight rules of a sound image.
+pub fn check(image: &[u8]) -> Checked {
+    match Disc::open(image) {
+        Ok(disc) => Checked {
+            number: 0,
+            rule: check::broken_rule(disc),
+        },
+        Err(refusal) => Checked {
+            number: refusal.number(),
+            rule: 0,
+        },
+    }
+}
+
+/// Writes the disc's and the files' records to the front of the buffer.
+pub fn list(image: &[u8], buffer: &mut [u8]) -> Listed {
+    match commands::list(image, buffer) {
+        Ok(length) => Listed {
+            number: 0,
+            length: length as u32,
+        },
+        Err(refusal) => Listed {
+            number: refusal.number(),
+            length: 0,
+        },
+    }
+}
+
+/// Reads a file's load module, its bytes to the front of the buffer.
+pub fn read(image: &[u8], name: &[u8], buffer: &mut [u8]) -> Reading {
+    commands::read(image, name, buffer).unwrap_or_else(|refusal| Reading {
+        number: refusal.number(),
+        page: 0,
+        start: 0,
+        end: 0,
+        transfer: 0,
+        length: 0,
+    })
+}
+
+/// Saves a sheet of bytes as a new, unprotected file.
+pub fn save(
+    image: &mut [u8],
+    name: &[u8],
+    page: u32,
+    start: u16,
+    transfer: u16,
+    sheet: &[u8],
+) -> u32 {
+    refusal::number(save::save(image, name, page, start, transfer, sheet))
+}
+
+/// Deletes an unprotected file; its sectors go to the head of the free chain.
+pub fn delete(image: &mut [u8], name: &[u8]) -> u32 {
+    refusal::number(commands::delete(image, name))
+}
+
+/// Gives an unprotected file a name that does not stand yet.
+pub fn rename(image: &mut [u8], old: &[u8], new: &[u8]) -> u32 {
+    refusal::number(commands::rename(image, old, new))
+}
+
+/// Protects a file, or with 0 lifts its protection.
+pub fn protect(image: &mut [u8], name: &[u8], on: u32) -> u32 {
+    refusal::number(commands::protect(image, name, on))
+}
+
+/// Makes the whole image a blank data disc.
+pub fn blank(image: &mut [u8], name: &[u8]) -> u32 {
+    refusal::number(commands::blank(image, name))
+}
+
+/// The 254 bytes after a sector's link, in the image itself; empty if refused.
+pub fn view(image: &[u8], track: u32, sector: u32) -> &[u8] {
+    commands::view(image, track, sector).unwrap_or(&[])
+}
+
+/// The number that belongs to a view with the same arguments.
+pub fn view_number(image: &[u8], track: u32, sector: u32) -> u32 {
+    refusal::number(commands::view(image, track, sector).map(|_| ()))
+}

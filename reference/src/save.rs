@@ -1,0 +1,96 @@
+//! Save: room is reckoned whole before the first byte is written.
+
+use crate::check::require_sound;
+use crate::directory::{self, Entry, Slot, UNPROTECTED};
+use crate::disc::{put_counts, put_free_pointer, put_link, sector_mut, Address, Disc, Sector};
+use crate::module::{sectors_taken, write_sector, Header};
+use crate::name::Name;
+use crate::refusal::Refusal;
+
+/// What a save will take from the disc.
+struct Plan {
+    /// The module's sectors in order.
+    file: Vec<Sector>,
+    slot: Slot,
+    /// The last directory sector, if a new one is to be linked from it.
+    grows_from: Option<Sector>,
+    free_pointer: Address,
+    free_count: usize,
+    used_count: usize,
+}
+
+pub fn save(
+    image: &mut [u8],
+    name: &[u8],
+    page: u32,
+    start: u16,
+    transfer: u16,
+    sheet: &[u8],
+) -> Result<(), Refusal> {
+    let disc = Disc::open(image)?;
+    let name = Name::of_file(name).ok_or(Refusal::Name)?;
+    let header = Header::new(page, start, transfer, sheet.len()).ok_or(Refusal::Module)?;
+    require_sound(disc)?;
+    if directory::find(disc, name).is_some() {
+        return Err(Refusal::Taken);
+    }
+    let plan = plan(disc, sheet.len()).ok_or(Refusal::Room)?;
+    write_file(image, &plan.file, &header, sheet);
+    write_entry(image, &plan, name);
+    put_free_pointer(image, plan.free_pointer);
+    put_counts(image, plan.free_count, plan.used_count);
+    Ok(())
+}
+
+/// Nothing if the free chain is shorter than the save needs.
+fn plan(disc: Disc<'_>, length: usize) -> Option<Plan> {
+    let needed = sectors_taken(length);
+    let slot = directory::free_slot(disc);
+    let taken_count = needed + usize::from(slot.is_none());
+    let mut file: Vec<Sector> = disc.chain(disc.free_pointer()).take(taken_count).collect();
+    if file.len() < taken_count {
+        return None;
+    }
+    let free_pointer = disc.link(*file.last()?).or_zeros();
+    let (slot, grows_from) = match slot {
+        Some(slot) => (slot, None),
+        None => {
+            let sector = file.pop()?;
+            (Slot { sector, index: 0 }, directory::sectors(disc).last())
+        }
+    };
+    Some(Plan {
+        file,
+        slot,
+        grows_from,
+        free_pointer,
+        free_count: disc.free_count() - taken_count,
+        used_count: disc.used_count() + needed,
+    })
+}
+
+fn write_file(image: &mut [u8], file: &[Sector], header: &Header, sheet: &[u8]) {
+    let mut left = sheet;
+    for (position, &sector) in file.iter().enumerate() {
+        left = write_sector(sector_mut(image, sector), position, header, left);
+        let link = file
+            .get(position + 1)
+            .map_or(Address::END, |next| next.address());
+        put_link(image, sector, link);
+    }
+}
+
+fn write_entry(image: &mut [u8], plan: &Plan, name: Name) {
+    if let Some(last) = plan.grows_from {
+        sector_mut(image, plan.slot.sector).fill(0);
+        put_link(image, last, plan.slot.sector.address());
+    }
+    let entry = Entry {
+        name,
+        length: plan.file.len() as u16,
+        first: plan.file[0].address(),
+        last: plan.file[plan.file.len() - 1].address(),
+        attribute: UNPROTECTED,
+    };
+    directory::fill_slot(image, plan.slot, &entry);
+}

@@ -1,0 +1,171 @@
+//! The book on its own, and that it catches a run that goes wrong.
+
+use crate::common::{small, ONE_SLOT, TWO_SLOT};
+use reference::blank;
+use reference::command::{Answer, Command};
+use reference::history::{moment_fault, Book, BookReading};
+
+fn save_command(name: &str, length: usize) -> Command {
+    Command::Save {
+        name: name.as_bytes().to_vec(),
+        page: 2,
+        start: 0x1000,
+        transfer: 0x1001,
+        sheet: vec![0x42; length],
+    }
+}
+
+fn delete_command(name: &str) -> Command {
+    Command::Delete {
+        name: name.as_bytes().to_vec(),
+    }
+}
+
+/// Runs a command that must be accepted, in the image and in the book.
+fn accept(image: &mut [u8], book: &mut Book, command: &Command) {
+    assert_eq!(command.run(image), Answer::Number(0), "{command:?}");
+    book.record(command, true);
+    assert_eq!(moment_fault(image, book), None, "{command:?}");
+}
+
+fn blank_start(tracks: usize) -> (Vec<u8>, Book) {
+    let mut image = vec![0; tracks * 2560];
+    assert_eq!(blank(&mut image, b"RUN"), 0);
+    let book = Book::start(&image).expect("a blank disc is sound");
+    (image, book)
+}
+
+#[test]
+fn the_book_of_the_hand_made_disc() {
+    let book = Book::start(&small()).expect("sound");
+    assert_eq!(
+        (book.directory(), book.file_sectors(), book.free()),
+        (1, 3, 5)
+    );
+    assert_eq!(book.standing()[0].name, *b"ONE      ");
+    assert_eq!(book.standing()[1].sectors, 2);
+    match &book.standing()[0].reading {
+        BookReading::Module(reading, bytes) => {
+            assert_eq!((reading.page, reading.end), (3, 0x2002));
+            assert_eq!(bytes, b"ABC");
+        }
+        BookReading::NotPlain => panic!("ONE is a module"),
+    }
+    assert_eq!(moment_fault(&small(), &book), None);
+}
+
+#[test]
+fn no_book_starts_with_an_unsound_image() {
+    let mut image = small();
+    image[0x16] = 9;
+    assert_eq!(Book::start(&image), None);
+    assert_eq!(Book::start(&image[1..]), None);
+}
+
+#[test]
+fn a_save_at_the_directory_edge_needs_one_more() {
+    let (mut image, mut book) = blank_start(4);
+    for file in 0..15 {
+        assert_eq!(book.need(245), 1);
+        accept(&mut image, &mut book, &save_command(&format!("F{file}"), 1));
+    }
+    assert_eq!((book.need(245), book.need(246)), (2, 3));
+    assert_eq!((book.directory(), book.free()), (1, 38 - 15));
+    accept(&mut image, &mut book, &save_command("F15", 499));
+    assert_eq!((book.directory(), book.file_sectors()), (2, 18));
+    assert_eq!((book.need(245), book.free()), (1, 39 - 2 - 18));
+}
+
+#[test]
+fn files_fall_below_their_peak_before_the_directory_is_full() {
+    let (mut image, mut book) = blank_start(6);
+    for file in 0..17 {
+        accept(&mut image, &mut book, &save_command(&format!("F{file}"), 1));
+    }
+    for file in [0, 3, 16, 15, 9] {
+        accept(&mut image, &mut book, &delete_command(&format!("F{file}")));
+    }
+    assert_eq!((book.standing().len(), book.directory()), (12, 2));
+    for file in 0..18 {
+        assert_eq!(book.need(1), 1);
+        accept(&mut image, &mut book, &save_command(&format!("G{file}"), 1));
+    }
+    assert_eq!((book.standing().len(), book.directory()), (30, 2));
+    assert_eq!(book.need(1), 2);
+    accept(&mut image, &mut book, &save_command("H", 246));
+    assert_eq!((book.directory(), book.free()), (3, 59 - 3 - 32));
+}
+
+#[test]
+fn an_accepted_blank_is_a_new_start() {
+    let (mut image, mut book) = blank_start(3);
+    for file in 0..16 {
+        accept(&mut image, &mut book, &save_command(&format!("F{file}"), 1));
+    }
+    assert_eq!((book.directory(), book.free()), (2, 11));
+    let again = Command::Blank {
+        name: b"AGAIN".to_vec(),
+    };
+    accept(&mut image, &mut book, &again);
+    assert_eq!((book.directory(), book.free()), (1, 28));
+    assert_eq!(Book::start(&image), Some(book));
+}
+
+#[test]
+fn refused_commands_change_nothing_in_the_book() {
+    let mut book = Book::start(&small()).expect("sound");
+    let before = book.clone();
+    book.record(&save_command("NEW", 3), false);
+    book.record(&delete_command("ONE"), false);
+    let protect = Command::Protect {
+        name: b"ONE".to_vec(),
+        on: 1,
+    };
+    book.record(&protect, true);
+    book.record(&Command::Check, true);
+    assert_eq!(book, before);
+}
+
+#[test]
+fn faults_are_found() {
+    let book = Book::start(&small()).expect("sound");
+    let found = |at: usize, byte: u8| {
+        let mut image = small();
+        image[at] = byte;
+        moment_fault(&image, &book).is_some()
+    };
+    assert!(found(0x14, 4), "free count");
+    assert!(found(0x10, 7), "free pointer");
+    assert!(found(0x12, 1), "directory pointer");
+    assert!(found(0x16, 1), "used count");
+    assert!(found(256 + 11, b'Z'), "a file's byte");
+    assert!(found(256 + 3, 4), "a file's page");
+    assert!(found(256 + 8, 0), "a file's transfer address");
+    assert!(found(ONE_SLOT, b'X'), "a name");
+    assert!(found(TWO_SLOT + 11, 5), "a first sector");
+    assert!(found(1, 1) == found(0x60, 1), "bytes of no meaning");
+    assert!(moment_fault(&small()[..2559], &book).is_some());
+}
+
+#[test]
+fn a_save_that_only_says_done_is_found() {
+    let mut book = Book::start(&small()).expect("sound");
+    book.record(&save_command("NEW", 3), true);
+    assert!(moment_fault(&small(), &book).is_some());
+    let mut book = Book::start(&small()).expect("sound");
+    book.record(&delete_command("ONE"), true);
+    assert!(moment_fault(&small(), &book).is_some());
+}
+
+#[test]
+fn a_sheet_of_other_bytes_is_found() {
+    let mut image = small();
+    let mut book = Book::start(&image).expect("sound");
+    let mut other = save_command("NEW", 3);
+    assert_eq!(other.run(&mut image), Answer::Number(0));
+    if let Command::Save { sheet, .. } = &mut other {
+        sheet[2] = 0x43;
+    }
+    book.record(&other, true);
+    assert!(moment_fault(&image, &book).is_some());
+}

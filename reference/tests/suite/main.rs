@@ -1,0 +1,14 @@
+//! The tests of the reference program. What they expect is worked out by hand
+//! from the paper, not by the code under test.
+
+mod check_rules;
+mod commands;
+mod common;
+mod examples;
+mod extremes;
+mod history;
+mod lent_memory;
+mod not_plain;
+mod refusals;
+mod runs;
+mod trace;
