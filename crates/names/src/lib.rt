@@ -20,7 +20,8 @@ pub struct Parsed {
     pub name: Name,
 }
 
-fn is_letter(b: u8) -> bool
+// A-Z or 0-9.
+pub fn is_letter(b: u8) -> bool
     ensures { λ r. ⌜ r ≡ letter b ⌝ }
 {
     if b'A' <= b {

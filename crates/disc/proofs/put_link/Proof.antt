@@ -1,0 +1,26 @@
+-- `disc::put_link` meets its contract.
+-- Assumes nothing.
+use borrow.Author.Needs.{needs}
+use Rattle.disc.proofs.put_link.Statement.{statement}
+use Rattle.disc.proofs.put_link.Tie as tie
+
+place-of-requires : tie.Need-place-of-requires
+place-of-requires c κs = search needs
+
+slice-aggregate-put : tie.Need-slice-aggregate-put
+slice-aggregate-put c = search needs
+
+put-requires : tie.Need-put-requires
+put-requires c κs = search needs
+
+same-length : tie.Need-same-length
+same-length c = search needs
+
+returns : tie.Need-returns
+returns c =
+    let place = c .before .before .before .before .before .place-of .ensures in
+    rw (← place .0, ← place .1) (c .before .before .put .ensures)
+
+pub put-link-spec : {M : Type 1} → statement M
+put-link-spec =
+    tie.close (tie.spec place-of-requires slice-aggregate-put put-requires same-length returns)
