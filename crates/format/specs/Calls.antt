@@ -141,9 +141,13 @@ pub record Answer : Type 0 where
   pub number : ℕ
   pub image : List ℕ
 
+-- a number and an image, as an answer
+abbrev pub answered : ℕ → List ℕ → Answer
+answered n image = record { number = n; image = image }
+
 -- "all lent memory stays": the old image with a refusal
 unfoldable pub answerBy : List ℕ → Try Refusal (List ℕ) → Answer
-answerBy image t = record { number = number t; image = valueOr image t }
+answerBy image t = answered (number t) (valueOr image t)
 
 -- check: the number, and the broken rule
 pub record CheckAnswer : Type 0 where

@@ -14,7 +14,7 @@ use Rattle.format.specs.Names.{stored}
 use Rattle.format.specs.Layout.{slotsEach, nameOf, lengthOf, directory, entries}
 use Rattle.format.specs.Modules.{Module, allowed, sectorsFor}
 use Rattle.format.specs.Effects.{reading}
-use Rattle.format.specs.Calls.{Answer, afterList, afterRead, afterSave, afterDelete, afterRename, afterProtect, afterCheck, viewNumber}
+use Rattle.format.specs.Calls.{Answer, answered, afterList, afterRead, afterSave, afterDelete, afterRename, afterProtect, afterCheck, viewNumber}
 
 -- ---- runs
 
@@ -30,21 +30,17 @@ pub data Command : Type 0 where
   check : Command
   view : (track sector : ℕ) → Command
 
--- a call that leaves the image as it was
-abbrev pub unchanged : List ℕ → ℕ → Answer
-unchanged image n = record { number = n; image = image }
-
 module _ (F : Format) where
   -- what a command answers, and the image as it leaves it: the definitions that the public calls' contracts cite
   unfoldable pub step : List ℕ → Command → Answer
-  step image (list buffer) = unchanged image (afterList F image buffer .number)
-  step image (read name buffer) = unchanged image (afterRead F image name buffer .number)
+  step image (list buffer) = answered (afterList F image buffer .number) image
+  step image (read name buffer) = answered (afterRead F image name buffer .number) image
   step image (save name m) = afterSave F image name m
   step image (delete name) = afterDelete F image name
   step image (rename old new) = afterRename F image old new
   step image (protect name on) = afterProtect F image name on
-  step image check = unchanged image (afterCheck F image .number)
-  step image (view t s) = unchanged image (viewNumber F image t s)
+  step image check = answered (afterCheck F image .number) image
+  step image (view t s) = answered (viewNumber F image t s) image
 
   -- the image after a list of commands, each on the image as the one before left it
   unfoldable pub run : List ℕ → List Command → List ℕ

@@ -1,7 +1,8 @@
 -- The answer of a function that reads a typed name.
 -- Assumes nothing.
+use mathlib.Core.Path.{_≡_, refl}
 use Prim.Native.Nat.{ℕ}
-use mathlib.Core.Bool.{true, false}
+use mathlib.Core.Bool.{true, false, true≢false, false≢true}
 use mathlib.Core.Option.{Option, none, some}
 use mathlib.Core.List.{List}
 use lib.ListN.{replicate}
@@ -11,3 +12,12 @@ use Rattle.names.specs.declared.Parsed.{Parsed}
 abbrev pub parsed : Option (List ℕ) → Parsed
 parsed none = record { ok = false; name = record { bytes = replicate 9 0 } }
 parsed (some nine) = record { ok = true; name = record { bytes = nine } }
+
+-- what a caller learns from the flag
+pub parsed-none : (o : Option (List ℕ)) → parsed o .ok ≡ false → o ≡ none
+parsed-none none e = refl
+parsed-none (some nine) e = absurd (true≢false e)
+
+pub parsed-some : (o : Option (List ℕ)) → parsed o .ok ≡ true → o ≡ some (parsed o .name .bytes)
+parsed-some none e = absurd (false≢true e)
+parsed-some (some nine) e = refl

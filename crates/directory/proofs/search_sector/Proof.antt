@@ -1,0 +1,75 @@
+-- `directory::search_sector` meets its contract. The loop's invariant: the first wanted slot from slot i on is the first of all.
+-- Assumes nothing.
+use borrow.Author.Needs.{needs}
+use native.Mathlib.Omega.{arith}
+use Prim.Native.Nat.{_-_, _≤_}
+use mathlib.Core.Path.{_≡_, ap, sym, _∙_}
+use Rattle.format.specs.Geometry.{Disc}
+use Rattle.format.specs.Layout.{slotsEach, slotsAt}
+use Rattle.disc.specs.Meaning.{sectorsOf}
+use Rattle.directory.specs.Meaning.{wantedOf, firstThat}
+use Rattle.directory.specs.Laws.{slotsFrom, slots-all, slots-end, first-here, first-next}
+use Rattle.directory.proofs.search_sector.Statement.{statement}
+use Rattle.directory.proofs.search_sector.Tie as tie
+
+abbrev Inv-loop : tie.InvT-loop
+Inv-loop image g n w i₀ i =
+    (i ≤ slotsEach) × (firstThat (wantedOf w) (slotsAt (sectorsOf g image) (n .0)) ≡ firstThat (wantedOf w) (slotsFrom (sectorsOf g image) (n .0) i))
+
+abbrev μ-loop : tie.MeasureT-loop
+μ-loop image g n w i₀ i = slotsEach - i
+
+loop-holds : tie.Need-loop-holds Inv-loop μ-loop
+loop-holds c =
+    let a = c .before .args in
+    (search needs, ap (firstThat (wantedOf (a .w))) (slots-all (sectorsOf (a .g) (a .image .now)) (a .n .0)))
+
+is-wanted-requires : tie.Need-is-wanted-requires Inv-loop μ-loop
+is-wanted-requires c κs = search needs
+
+returns : tie.Need-returns Inv-loop μ-loop
+returns c =
+    let a = c .before .before .before .before .before .args in
+    let loop = c .before .before .before .loop in
+    let d : Disc = sectorsOf (a .g) (a .image .now) in
+    let wanted = sym (c .before .is-wanted .ensures) ∙ c .if1 .taken in
+    record {
+      slot = sym (loop .inv .1 ∙ first-here (wantedOf (a .w)) d (a .n .0) (loop .i) (omega arith) wanted);
+      within = (omega arith, omega arith);
+    }
+
+add-i : tie.Need-add-i Inv-loop μ-loop
+add-i c = search needs
+
+loop-less : tie.Need-loop-less Inv-loop μ-loop
+loop-less c = search needs
+
+loop-again : tie.Need-loop-again Inv-loop μ-loop
+loop-again c =
+    let a = c .before .before .before .before .before .args in
+    let loop = c .before .before .before .loop in
+    let d : Disc = sectorsOf (a .g) (a .image .now) in
+    let other = sym (c .before .is-wanted .ensures) ∙ c .if1 .left in
+    (omega arith, loop .inv .1 ∙ first-next (wantedOf (a .w)) d (a .n .0) (loop .i) (omega arith) other)
+
+returns-2 : tie.Need-returns-2 Inv-loop μ-loop
+returns-2 c =
+    let a = c .before .before .before .args in
+    let loop = c .before .loop in
+    let d : Disc = sectorsOf (a .g) (a .image .now) in
+    let over = slots-end d (a .n .0) (loop .i) (omega arith) in
+    record { slot = sym (loop .inv .1 ∙ ap (firstThat (wantedOf (a .w))) over); within = tt }
+
+pub search-sector-spec : {M : Type 1} → statement M
+search-sector-spec =
+    tie.close
+    (tie.spec
+    Inv-loop
+    μ-loop
+    loop-holds
+    is-wanted-requires
+    returns
+    add-i
+    loop-less
+    loop-again
+    returns-2)

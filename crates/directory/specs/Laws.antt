@@ -1,0 +1,191 @@
+-- Laws of Meaning: the steps of a walk, the slots of a sector one after the other, the search, and the bytes of an entry.
+-- Assumes nothing.
+use mathlib.Core.Path.{_≡_, refl, sym, ap, ap₂, _∙_}
+use mathlib.Core.Logic.{_≢_}
+use Prim.Native.Nat.{ℕ, suc, _+_, _*_, _-_, _≤_, _<_}
+use native.Mathlib.Omega.{arith}
+use native.Mathlib.Numerals.{add-one}
+use mathlib.Core.Bool.{Bool, true, false, not, true≢false}
+use mathlib.Core.Option.{Option, none, some}
+use mathlib.Core.List.{List, [], _∷_, _++_, map, head?}
+use lib.ListN.{drop}
+use lib.Seq.{getD-take, getD-drop}
+use Rattle.format.specs.Lists.{byte, wordAt, same, consIf, filter, range}
+use Rattle.format.specs.ListLaws.{and-true, filter-join, filter-yes, filter-no, same-true}
+use Rattle.format.specs.Geometry.{Geometry, Next, stop, go, off, Disc, sector, pointed}
+use Rattle.format.specs.ChainLaws.{met-stop, met-off, met-none, met-go}
+use Rattle.format.specs.Names.{letter, stored, legalStored}
+use Rattle.format.specs.NameLaws.{stored-legal}
+use Rattle.format.specs.Layout.{slotsEach, slotStart, Slot, emptySlot, freeSlot, inUse, nameOf, slotAt, slotsAt, slotsOf, linkOf, pairAt, met, directoryPointer, directory, slots, entries, find, openSlot}
+use Rattle.disc.specs.Meaning.{geo, meaning, sectorsOf, Image}
+use Rattle.disc.specs.Laws.{inside}
+use Rattle.disc.specs.declared.Geometry as code
+use Rattle.disc.specs.declared.Link.{Link}
+use Rattle.names.specs.Answer.{parsed}
+use Rattle.names.specs.declared.Parsed.{Parsed}
+use Rattle.directory.specs.Meaning.{restOf, Started, Met, firstThat}
+use Rattle.directory.specs.declared.Walk.{Walk}
+
+-- ---- the walk
+
+module _ {g : code.Geometry} {image : List ℕ} (im : Image g image) where
+  -- a walk starts at the directory pointer, and can meet as many sectors as the disc has
+  pub started : (l : Link) → meaning l ≡ directoryPointer (geo g) (sectorsOf g image) → Started g image (record { at = l; left = g .sectors })
+  unfolding restOf directory
+  started l e =
+      record {
+        all = ap₂ (met (geo g) (sectorsOf g image)) (im .valid .total) e;
+        inside = inside (im .valid) l _ _ e;
+      }
+
+  -- a step to sector n, whose link is l
+  pub step-to : (w : Walk) (n : ℕ) (l : Link) → w .left ≢ 0 → meaning (w .at) ≡ go n → n < g .sectors
+      → meaning l ≡ linkOf (geo g) (sector (sectorsOf g image) n) → Met g image w n (record { at = l; left = w .left - 1 })
+  unfolding restOf
+  step-to w n l some-left to on e =
+      record {
+        next =
+            ap (met (geo g) (sectorsOf g image) (w .left)) to
+            ∙ met-go (geo g) (sectorsOf g image) (w .left) n (omega arith)
+            ∙ ap (λ (p : Next). n ∷ met (geo g) (sectorsOf g image) (w .left - 1) p) (sym e);
+        on-disc = on;
+        inside = inside (im .valid) l _ _ e;
+      }
+
+module _ (g : code.Geometry) (image : List ℕ) (w : Walk) where
+  pub rest-none : w .left ≡ 0 → restOf g image w ≡ []
+  unfolding restOf
+  rest-none e = ap (λ (k : ℕ). met (geo g) (sectorsOf g image) k (meaning (w .at))) e ∙ met-none (geo g) (sectorsOf g image) (meaning (w .at))
+
+  pub rest-stop : meaning (w .at) ≡ stop → restOf g image w ≡ []
+  unfolding restOf
+  rest-stop e = ap (met (geo g) (sectorsOf g image) (w .left)) e ∙ met-stop (geo g) (sectorsOf g image) (w .left)
+
+  pub rest-off : meaning (w .at) ≡ off → restOf g image w ≡ []
+  unfolding restOf
+  rest-off e = ap (met (geo g) (sectorsOf g image) (w .left)) e ∙ met-off (geo g) (sectorsOf g image) (w .left)
+
+-- ---- the slots of a sector, one after the other
+
+-- those of sector n from slot i on
+unfoldable pub slotsFrom : Disc → ℕ → ℕ → List Slot
+slotsFrom d n i = map (slotAt d n) (range i (slotsEach - i))
+
+module _ (d : Disc) (n : ℕ) where
+  pub slots-all : slotsAt d n ≡ slotsFrom d n 0
+  unfolding slotsFrom slotsAt
+  slots-all = refl
+
+  pub slots-step : (i : ℕ) → i < slotsEach → slotsFrom d n i ≡ slotAt d n i ∷ slotsFrom d n (i + 1)
+  unfolding slotsFrom
+  slots-step i h = let e : slotsEach - i ≡ suc (slotsEach - (i + 1)) = omega arith in rw (e, ← add-one i)
+
+  pub slots-end : (i : ℕ) → slotsEach ≤ i → slotsFrom d n i ≡ []
+  unfolding slotsFrom
+  slots-end i h = let e : slotsEach - i ≡ 0 = omega arith in rw e
+
+-- ---- the slots of sectors
+
+pub slots-none : (d : Disc) → slotsOf d [] ≡ []
+unfolding slotsOf
+slots-none d = refl
+
+pub slots-cons : (d : Disc) (n : ℕ) (ns : List ℕ) → slotsOf d (n ∷ ns) ≡ slotsAt d n ++ slotsOf d ns
+unfolding slotsOf
+slots-cons d n ns = refl
+
+pub slots-are : (G : Geometry) (d : Disc) → slots G d ≡ slotsOf d (directory G d)
+unfolding slots
+slots-are G d = refl
+
+-- ---- the first that passes a test
+
+module _ (p : Slot → Bool) where
+  -- among the slots of sector n from slot i on
+  module _ (d : Disc) (n i : ℕ) (h : i < slotsEach) where
+    pub first-here : p (slotAt d n i) ≡ true → firstThat p (slotsFrom d n i) ≡ some (slotAt d n i)
+    first-here e = ap (firstThat p) (slots-step d n i h) ∙ ap head? (filter-yes p (slotAt d n i) (slotsFrom d n (i + 1)) e)
+
+    pub first-next : p (slotAt d n i) ≡ false → firstThat p (slotsFrom d n i) ≡ firstThat p (slotsFrom d n (i + 1))
+    first-next e = ap (firstThat p) (slots-step d n i h) ∙ ap head? (filter-no p (slotAt d n i) (slotsFrom d n (i + 1)) e)
+
+  head-left : (s : Slot) (xs ys : List Slot) → head? xs ≡ some s → head? (xs ++ ys) ≡ some s
+  head-left s [] ys e = cc
+  head-left s (x ∷ xs) ys e = e
+
+  head-right : (xs ys : List Slot) → head? xs ≡ none → head? (xs ++ ys) ≡ head? ys
+  head-right [] ys e = refl
+  head-right (x ∷ xs) ys e = cc
+
+  -- in sector n, or in those after it
+  module _ (d : Disc) (n : ℕ) (ns : List ℕ) where
+    first-join : firstThat p (slotsOf d (n ∷ ns)) ≡ head? (filter p (slotsAt d n) ++ filter p (slotsOf d ns))
+    first-join = ap (firstThat p) (slots-cons d n ns) ∙ ap head? (filter-join p (slotsAt d n) (slotsOf d ns))
+
+    pub first-in : (s : Slot) → firstThat p (slotsAt d n) ≡ some s → firstThat p (slotsOf d (n ∷ ns)) ≡ some s
+    first-in s e = first-join ∙ head-left s (filter p (slotsAt d n)) (filter p (slotsOf d ns)) e
+
+    pub first-after : firstThat p (slotsAt d n) ≡ none → firstThat p (slotsOf d (n ∷ ns)) ≡ firstThat p (slotsOf d ns)
+    first-after e = first-join ∙ head-right (filter p (slotsAt d n)) (filter p (slotsOf d ns)) e
+
+pub open-first : (G : Geometry) (d : Disc) → openSlot G d ≡ firstThat freeSlot (slots G d)
+unfolding openSlot
+open-first G d = refl
+
+-- ---- no free slot has a legal name
+
+-- a second test changes nothing where the first one implies it
+filter-filter : {A : Type 0} (p q : A → Bool) → ((a : A) → p a ≡ true → q a ≡ true) → (xs : List A) → filter p (filter q xs) ≡ filter p xs
+filter-filter p q h [] = refl
+filter-filter {A} p q h (x ∷ xs) = by (q x) (p x) refl refl (filter-filter p q h xs)
+  where
+    by : (a b : Bool) → q x ≡ a → p x ≡ b → filter p (filter q xs) ≡ filter p xs → filter p (consIf a x (filter q xs)) ≡ consIf b x (filter p xs)
+    by true b e g i = rw g (ap (consIf b x) i)
+    by false true e g i = absurd (true≢false (sym (h x g) ∙ e))
+    by false false e g i = i
+
+-- the first byte of a legal name is a letter, that of a free slot is 0
+named-used : (nine : List ℕ) → legalStored nine ≡ true → (s : Slot) → same (nameOf s) nine ≡ true → not (freeSlot s) ≡ true
+unfolding legalStored letter freeSlot emptySlot
+named-used nine legal s named = by (freeSlot s) refl
+  where
+    by : (b : Bool) → freeSlot s ≡ b → not b ≡ true
+    by false e = refl
+    by true e =
+        let zero-first : byte nine 0 ≡ 0 =
+        ap (λ (xs : List ℕ). byte xs 0) (sym (same-true (nameOf s) nine named))
+        ∙ getD-take 9 (s .bytes) 0 0 (omega arith)
+        ∙ ap (λ (xs : List ℕ). byte xs 0) (same-true (s .bytes) emptySlot e) in
+        absurd (true≢false (sym (and-true _ _ (and-true _ _ legal .0) .0) ∙ ap letter zero-first))
+
+pub find-first : (G : Geometry) (d : Disc) (nine : List ℕ) → legalStored nine ≡ true → find G d nine ≡ firstThat (λ s. same (nameOf s) nine) (slots G d)
+unfolding find entries inUse
+find-first G d nine legal = ap head? (filter-filter (λ s. same (nameOf s) nine) (λ s. not (freeSlot s)) (named-used nine legal) (slots G d))
+
+-- what `names::file_name` accepts is a legal name
+pub parsed-legal : (typed : List ℕ) (p : Parsed) → p ≡ parsed (stored typed) → p .ok ≡ true → legalStored (p .name .bytes) ≡ true
+parsed-legal typed p e ok = by (stored typed) refl
+  where
+    by : (o : Option (List ℕ)) → stored typed ≡ o → legalStored (p .name .bytes) ≡ true
+    by none s = absurd (true≢false (sym ok ∙ ap (λ (q : Parsed). q .ok) (e ∙ ap parsed s)))
+    by (some nine) s = ap (λ (q : Parsed). legalStored (q .name .bytes)) (e ∙ ap parsed s) ∙ stored-legal typed nine s
+
+-- ---- the bytes of an entry
+
+module _ (d : Disc) (n i k : ℕ) where
+  -- byte j of slot i by its place in the sector
+  pub slot-byte : (j : ℕ) → k ≡ slotStart i → j < 16 → byte (sector d n) (k + j) ≡ byte (slotAt d n i .bytes) j
+  unfolding slotAt
+  slot-byte j e h =
+      ap (λ (k : ℕ). byte (sector d n) (k + j)) e
+      ∙ sym (getD-take 16 (drop (slotStart i) (sector d n)) j 0 h ∙ getD-drop (slotStart i) (sector d n) j 0)
+
+  -- the byte after it
+  slot-byte-next : (j : ℕ) → k ≡ slotStart i → j + 1 < 16 → byte (sector d n) (k + j + 1) ≡ byte (slotAt d n i .bytes) (j + 1)
+  slot-byte-next j e h = let next : k + j + 1 ≡ k + (j + 1) = omega arith in ap (byte (sector d n)) next ∙ slot-byte (j + 1) e h
+
+  pub slot-word : (j : ℕ) → k ≡ slotStart i → j + 1 < 16 → wordAt (sector d n) (k + j) ≡ wordAt (slotAt d n i .bytes) j
+  slot-word j e h = ap₂ (λ (low high : ℕ). low + 256 * high) (slot-byte j e (omega arith)) (slot-byte-next j e h)
+
+  pub slot-pair : (G : Geometry) (j : ℕ) → k ≡ slotStart i → j + 1 < 16 → pairAt G (sector d n) (k + j) ≡ pairAt G (slotAt d n i .bytes) j
+  slot-pair G j e h = ap₂ (pointed G) (slot-byte-next j e h) (slot-byte j e (omega arith))

@@ -1,0 +1,119 @@
+-- Lists of entries: of one slot, of a directory sector from a slot on, and of the directory sectors from a pointer on.
+-- Assumes nothing.
+use mathlib.Core.Path.{_≡_, refl, sym, ap, ap₂, _∙_, subst}
+use mathlib.Core.Logic.{_⊎_, ⊎-elim}
+use Prim.Native.Nat.{ℕ, suc, _+_, _-_, _≤_, _<_}
+use native.Mathlib.Omega.{arith}
+use mathlib.Core.Bool.{Bool, true, false, not}
+use mathlib.Core.List.{List, [], _∷_, _++_, map}
+use Rattle.format.specs.Lists.{range, consIf}
+use Rattle.format.specs.ListLaws.{filter-join}
+use Rattle.format.specs.Geometry.{Geometry, sectors, Next, go, Disc, sector}
+use Rattle.format.specs.Layout.{slotsEach, Slot, freeSlot, inUse, slotAt, slotsAt, slotsOf, linkOf, met, directoryPointer, directory, slots, entries}
+use Rattle.format.specs.ChainLaws.{met-stop, met-off, met-none, met-go}
+use denote.Enum.Declared.{tagOf}
+use Rattle.disc.proofs.Link.{the-type}
+use Rattle.disc.specs.Meaning.{geo, meaning, Valid, Inside}
+use Rattle.disc.specs.declared.Geometry as code
+use Rattle.disc.specs.declared.SectorNo.{SectorNo}
+use Rattle.disc.specs.declared.Link.{Link}
+use Rattle.disc.specs.declared.Link.the-variants.{End, To, Off}
+
+-- ---- slots in use
+
+pub use-join : (ss ts : List Slot) → inUse (ss ++ ts) ≡ inUse ss ++ inUse ts
+unfolding inUse
+use-join ss ts = filter-join (λ s. not (freeSlot s)) ss ts
+
+-- one slot
+module _ (s : Slot) where
+  pub use-free : freeSlot s ≡ true → inUse (s ∷ []) ≡ []
+  unfolding inUse
+  use-free e = ap (λ (b : Bool). consIf (not b) s []) e
+
+  pub use-used : freeSlot s ≡ false → inUse (s ∷ []) ≡ s ∷ []
+  unfolding inUse
+  use-used e = ap (λ (b : Bool). consIf (not b) s []) e
+
+-- the slots of a directory sector from slot i on
+unfoldable pub slotsFrom : Disc → ℕ → ℕ → List Slot
+slotsFrom d n i = map (slotAt d n) (range i (slotsEach - i))
+
+module _ (d : Disc) (n : ℕ) where
+  pub slots-all : slotsAt d n ≡ slotsFrom d n 0
+  unfolding slotsFrom slotsAt
+  slots-all = refl
+
+  module _ (i : ℕ) where
+    slots-next : i < slotsEach → slotsFrom d n i ≡ slotAt d n i ∷ slotsFrom d n (i + 1)
+    unfolding slotsFrom
+    slots-next h =
+        let e : slotsEach - i ≡ suc (slotsEach - (i + 1)) = omega arith in
+        let f : suc i ≡ i + 1 = omega arith in
+        ap (λ (k : ℕ). map (slotAt d n) (range i k)) e ∙ ap (λ (k : ℕ). slotAt d n i ∷ map (slotAt d n) (range k (slotsEach - (i + 1)))) f
+
+    pub use-next : i < slotsEach → inUse (slotsFrom d n i) ≡ inUse (slotAt d n i ∷ []) ++ inUse (slotsFrom d n (i + 1))
+    use-next h = ap inUse (slots-next h) ∙ use-join (slotAt d n i ∷ []) (slotsFrom d n (i + 1))
+
+    pub use-next-free : i < slotsEach → freeSlot (slotAt d n i) ≡ true → inUse (slotsFrom d n i) ≡ inUse (slotsFrom d n (i + 1))
+    use-next-free h e = use-next h ∙ ap (λ (ss : List Slot). ss ++ inUse (slotsFrom d n (i + 1))) (use-free (slotAt d n i) e)
+
+    pub use-next-used : i < slotsEach → freeSlot (slotAt d n i) ≡ false → inUse (slotsFrom d n i) ≡ slotAt d n i ∷ inUse (slotsFrom d n (i + 1))
+    use-next-used h e = use-next h ∙ ap (λ (ss : List Slot). ss ++ inUse (slotsFrom d n (i + 1))) (use-used (slotAt d n i) e)
+
+    pub use-over : slotsEach ≤ i → inUse (slotsFrom d n i) ≡ []
+    unfolding inUse slotsFrom
+    use-over h = let e : slotsEach - i ≡ 0 = omega arith in rw e
+
+-- ---- directory sectors
+
+-- the entries of the directory sectors met from p on
+unfoldable pub entriesFrom : Geometry → Disc → ℕ → Next → List Slot
+entriesFrom G d steps p = inUse (slotsOf d (met G d steps p))
+
+module _ (G : Geometry) (d : Disc) (p : Next) where
+  module _ (most count : ℕ) where
+    pub met-over : most ≤ count → met G d (most - count) p ≡ []
+    met-over h = let e : most - count ≡ 0 = omega arith in ap (λ (k : ℕ). met G d k p) e ∙ met-none G d p
+
+    pub met-next : (n : ℕ) (q : Next) → count < most → p ≡ go n → q ≡ linkOf G (sector d n) → met G d (most - count) p ≡ n ∷ met G d (most - (count + 1)) q
+    met-next n q h e f =
+        let less : most - count - 1 ≡ most - (count + 1) = omega arith in
+        ap (met G d (most - count)) e
+        ∙ met-go G d (most - count) n (omega arith)
+        ∙ ap₂ (λ (k : ℕ) (x : Next). n ∷ met G d k x) less (sym f)
+
+    pub entries-next : (n : ℕ) (q : Next) → count < most → p ≡ go n → q ≡ linkOf G (sector d n)
+        → entriesFrom G d (most - count) p ≡ inUse (slotsFrom d n 0) ++ entriesFrom G d (most - (count + 1)) q
+    unfolding entriesFrom slotsOf
+    entries-next n q h e f =
+        ap (λ (ns : List ℕ). inUse (slotsOf d ns)) (met-next n q h e f)
+        ∙ use-join (slotsAt d n) (slotsOf d (met G d (most - (count + 1)) q))
+        ∙ ap (λ (ss : List Slot). inUse ss ++ entriesFrom G d (most - (count + 1)) q) (slots-all d n)
+
+  pub entries-over : (k : ℕ) → met G d k p ≡ [] → entriesFrom G d k p ≡ []
+  unfolding entriesFrom slotsOf inUse
+  entries-over k e = ap (λ (ns : List ℕ). inUse (slotsOf d ns)) e
+
+-- from the directory pointer on, within as many steps as there are sectors
+pub entries-start : {g : code.Geometry} → Valid g → (d : Disc) (p : Next) → p ≡ directoryPointer (geo g) d → entriesFrom (geo g) d (g .sectors - 0) p ≡ entries (geo g) d
+unfolding entriesFrom entries slots directory
+entries-start {g} v d p e =
+    let steps : g .sectors - 0 ≡ sectors (geo g) = omega (arith, v .total) in
+    ap₂ (λ (k : ℕ) (x : Next). entriesFrom (geo g) d k x) steps e
+
+-- ---- links of the code
+
+-- the number of a link's case, as a match on it tells
+abbrev pub caseOf : Link → ℕ
+caseOf l = tagOf the-type l
+
+-- a link that leads to no sector
+pub met-ended : (G : Geometry) (d : Disc) (k : ℕ) (l : Link) → (caseOf l ≡ 0) ⊎ (caseOf l ≡ 2) → met G d k (meaning l) ≡ []
+met-ended G d k End h = met-stop G d k
+met-ended G d k (To n) h = absurd (⊎-elim (λ (e : caseOf (To n) ≡ 0). omega arith) (λ (e : caseOf (To n) ≡ 2). omega arith) h)
+met-ended G d k Off h = met-off G d k
+
+-- a link inside the disc that leads to a sector
+pub inside-to : (g : code.Geometry) {l : Link} {n : SectorNo} → l ≡ To n → Inside g l → n .0 < g .sectors
+inside-to g e h = subst (Inside g) e h

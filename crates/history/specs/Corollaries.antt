@@ -1,0 +1,72 @@
+-- Two sentences of document 01 that follow from demand 3: what the opening book's readings are, and that what is saved is read back.
+-- Assumes nothing.
+use mathlib.Core.Path.{_≡_, refl, sym, ap, _∙_, subst}
+use Prim.Native.Nat.{ℕ, _≤_}
+use native.Mathlib.Omega.{arith}
+use mathlib.Core.Option.{Option, none, some}
+use mathlib.Core.List.{List, [], _∷_}
+use lib.ListN.{length, getElem?}
+use borrow.Author.Tests.{le-ltb}
+use Rattle.format.specs.ListLaws.{All, done, _also_, all-mapped}
+use Rattle.format.specs.Refusals.{NOT-PLAIN, ok, _>>_, refuse_if_, _orRefuse_}
+use Rattle.format.specs.RefusalLaws.{then-ok}
+use Rattle.format.specs.Geometry.{Format, Geometry, geometry, Disc, cut}
+use Rattle.format.specs.Names.{stored}
+use Rattle.format.specs.Layout.{Slot, entries}
+use Rattle.format.specs.Modules.{Module}
+use Rattle.format.specs.ModuleLaws.{allowed-true, plain-only}
+use Rattle.format.specs.Effects.{reading}
+use Rattle.format.specs.Calls.{saveOn, changed, answerBy, readAnswerBy, afterCheck, afterRead, afterSave}
+use Rattle.format.specs.CallLaws.{save-ok}
+use Rattle.format.specs.History.{Command, save, step, run, File, Book, nineOf, accepted, entered, openingBook, bookAfter, says}
+use Rattle.format.specs.Demand3.{isSound, Handed, Moment}
+use Rattle.history.specs.OnlyOne.{all-got}
+use Rattle.history.specs.Answers.{zero-ok}
+use Rattle.history.specs.State.{nine-of}
+use Rattle.history.specs.Demand.{SoundFormat, run-moment, checked-sound}
+
+all-any : {A : Type 0} {P : A → Type 0} (xs : List A) → ((x : A) → P x) → All P xs
+all-any [] h = done
+all-any (x ∷ xs) h = h x also all-any xs h
+
+-- a module that is read has 65,536 bytes at most
+reading-small : (G : Geometry) (d : Disc) (s : Slot) (m : Module) → reading G d s ≡ some m → length (m .bytes) ≤ 65536
+unfolding reading
+reading-small G d s m e = omega (arith, allowed-true m (plain-only _ m e .0) .within)
+
+-- with room for every module, what the book says is the reading itself
+says-whole : (o : Option Module) (room : ℕ) → ((m : Module) → o ≡ some m → length (m .bytes) ≤ room) → says o room ≡ (o orRefuse NOT-PLAIN)
+unfolding says _orRefuse_ refuse_if_ _>>_
+says-whole none room h = refl
+says-whole (some m) room h = rw (le-ltb room (length (m .bytes)) (h m refl))
+
+-- an accepted save's name can be stored
+saved-typed : (F : Format) (s name : List ℕ) (m : Module) → afterSave F s name m .number ≡ 0 → stored name ≡ some (nineOf name)
+unfolding afterSave answerBy changed
+saved-typed F s name m e =
+    let a = then-ok (geometry F (length s)) _ (zero-ok s (changed F s (λ G d. saveOn G d name m)) e) in
+    let b = then-ok (saveOn (a .0) (cut (a .0) s) name m) _ (a .2) in
+    let q = save-ok (a .0) (cut (a .0) s) name m (b .0) (b .1) in
+    q .typed ∙ ap some (sym (nine-of name (q .typed)))
+
+module _ (F : Format) (f : SoundFormat F) (s : List ℕ) (G : Geometry) (g : geometry F (length s) ≡ ok G) (checked : afterCheck F s ≡ isSound) where
+  -- "At the start these are the entries', each reading as read with a buffer of 65,536 bytes gives it."
+  pub opening-reads : (i : ℕ) (file : File) → getElem? (openingBook G (cut G s) .files) i ≡ some file
+      → (typed buffer : List ℕ) → stored typed ≡ some (file .name) → length buffer ≡ 65536 → afterRead F s typed buffer ≡ readAnswerBy buffer (file .reading orRefuse NOT-PLAIN)
+  unfolding run bookAfter openingBook
+  opening-reads i file e typed buffer t long =
+      let m = run-moment F f s G g (checked-sound F s G g checked) [] tt 0 (omega arith) in
+      let small = all-got {P = λ file. (m : Module) → file .reading ≡ some m → length (m .bytes) ≤ 65536} i file
+      (all-mapped _ (all-any (entries G (cut G s)) (λ slot. reading-small G (cut G s) slot))) e in
+      m .reads i file e typed buffer t ∙ ap (readAnswerBy buffer) (says-whole (file .reading) (length buffer) (λ m q. omega (arith, small m q)))
+
+  -- an accepted save's module is read back under its name
+  pub saved-reads : (name : List ℕ) (m : Module) → Handed (save name m) → afterSave F s name m .number ≡ 0
+      → (buffer : List ℕ) → afterRead F (afterSave F s name m .image) name buffer ≡ readAnswerBy buffer (says (some m) (length buffer))
+  unfolding run bookAfter step entered accepted
+  saved-reads name m handed e buffer =
+      let b : Book = openingBook G (cut G s) in
+      let c : Command = save name m in
+      let now : Moment F G s (afterSave F s name m .image) (accepted b c) =
+      subst (λ (k : ℕ). Moment F G s (afterSave F s name m .image) (entered b c k)) e (run-moment F f s G g (checked-sound F s G g checked) (c ∷ []) (handed, tt) 1 (omega arith)) in
+      now .reads 0 _ refl name buffer (saved-typed F s name m e)

@@ -1,0 +1,149 @@
+-- Demand 3: the state holds at the start and every command keeps it, so the claim holds at every moment of a run.
+-- Assumes nothing.
+use mathlib.Core.Path.{_≡_, refl, sym, ap, _∙_, subst}
+use mathlib.Core.Logic.{_≢_}
+use Prim.Native.Nat.{ℕ, zero, suc, _*_, _≤_, _<_}
+use native.Mathlib.Omega.{arith}
+use native.Mathlib.Nat.{mul-le-mul-left}
+use mathlib.Core.List.{List, [], _∷_}
+use lib.ListN.{length, take, length-map}
+use Rattle.format.specs.Refusals.{Refusal, numberOf, Try, refused, ok, _>>=_, number, valueOr}
+use Rattle.format.specs.RefusalLaws.{refusal-number}
+use Rattle.format.specs.Geometry.{Format, ten, Geometry, geometry, Disc, cut, flat, Write, written}
+use Rattle.format.specs.GeometryLaws.{ImageOf, geometry-ok, cut-full, cut-flat, flat-long}
+use Rattle.format.specs.Layout.{slotsEach, slotsOf, directory, free, slots, entries}
+use Rattle.format.specs.Check.{broken}
+use Rattle.format.specs.Calls.{saveOn, deleteOn, renameOn, protectOn, asked, changed, answerBy, CheckAnswer, checkAnswerBy, afterCheck, afterSave, afterDelete, afterRename, afterProtect}
+use Rattle.format.specs.History.{Command, list, read, save, delete, rename, protect, check, view, step, run, Book, accepted, entered, openingBook, bookAfter, sumDirectory}
+use Rattle.format.specs.Demand3.{isSound, Handed, AllHanded, Moment, Demand3}
+use Rattle.soundness.specs.Slots.{inUse-many, slots-many}
+use Rattle.soundness.specs.Filed.{entriesOf}
+use Rattle.soundness.specs.Laid.{sound-laid}
+use Rattle.soundness.specs.Pointers.{Bounded}
+use Rattle.history.specs.Permutations.{as-is}
+use Rattle.history.specs.BookFiles.{fileOf, filesOf}
+use Rattle.history.specs.State.{State, protect-state, delete-state, rename-state, save-state}
+use Rattle.history.specs.Moments.{moment}
+
+-- a kind of disc with a sector on each track, whose sector numbers fit a byte
+pub record SoundFormat (F : Format) : Type 0 where
+  pub some-sector : 0 < F .perTrack
+  pub few : F .perTrack < 256
+
+pub image-bounded : {F : Format} {G : Geometry} {n : ℕ} → SoundFormat F → ImageOf F G n → Bounded G
+image-bounded {F} {G} f i = record { some-sector = omega (arith, f .some-sector, i .per-track); few = omega (arith, mul-le-mul-left (G .perTrack) (i .few-tracks), f .few, i .per-track) }
+
+-- ---- what a command leaves of the book
+
+-- a refused command leaves it
+refused-book : (b : Book) (c : Command) (k : ℕ) → k ≢ 0 → entered b c k ≡ b
+unfolding entered
+refused-book b c zero h = absurd (h refl)
+refused-book b c (suc k) h = refl
+
+-- so does a command that changes nothing
+unchanged-book : (b : Book) (c : Command) (k : ℕ) → accepted b c ≡ b → entered b c k ≡ b
+unfolding entered
+unchanged-book b c zero e = e
+unchanged-book b c (suc k) e = refl
+
+-- ---- a run
+
+module _ (F : Format) (f : SoundFormat F) (s : List ℕ) (G : Geometry) (g : geometry F (length s) ≡ ok G) where
+  size : ImageOf F G (length s)
+  size = geometry-ok F (length s) G g
+
+  -- a moment of a run from s on
+  pub record At (image : List ℕ) (b : Book) : Type 0 where
+    pub long : length image ≡ length s
+    pub state : State G (cut G s) (cut G image) b
+
+  same-geometry : {image : List ℕ} {b : Book} → At image b → geometry F (length image) ≡ ok G
+  same-geometry a = ap (geometry F) (a .long) ∙ g
+
+  -- a command that writes
+  writing : (image : List ℕ) (b : Book) (c : Command) (h : Geometry → Disc → Try Refusal (List Write)) → At image b
+      → ((ws : List Write) → h G (cut G image) ≡ ok ws → State G (cut G s) (written ws (cut G image)) (accepted b c))
+      → At (answerBy image (changed F image h) .image) (entered b c (answerBy image (changed F image h) .number))
+  unfolding changed entered answerBy valueOr number _>>=_
+  writing image b c h a keeps = rw (same-geometry a) (case (h G (cut G image)) refl)
+    where
+      after : Try Refusal (List Write) → Try Refusal (List ℕ)
+      after r = r >>= λ ws. ok (flat G (written ws (cut G image)))
+
+      case : (r : Try Refusal (List Write)) → h G (cut G image) ≡ r → At (valueOr image (after r)) (entered b c (number (after r)))
+      case (refused e) p = subst (At image) (sym (refused-book b c (numberOf e) (refusal-number e))) a
+      case (ok ws) p =
+          let st = keeps ws p in
+          record {
+            long = flat-long G (written ws (cut G image)) (st .full) ∙ sym (size .long);
+            state = subst (λ (d : Disc). State G (cut G s) d (accepted b c)) (sym (cut-flat G (written ws (cut G image)) (st .full))) st;
+          }
+
+  -- a command that doesn't
+  asking : (image : List ℕ) (b : Book) (c : Command) (k : ℕ) → accepted b c ≡ b → At image b → At image (entered b c k)
+  asking image b c k e a = subst (At image) (sym (unchanged-book b c k e)) a
+
+  bounded : Bounded G
+  bounded = image-bounded f size
+
+  step-at : (image : List ℕ) (b : Book) (c : Command) → Handed c → At image b → At (step F image c .image) (entered b c (step F image c .number))
+  unfolding step accepted afterSave afterDelete afterRename afterProtect
+  step-at image b (list buffer) h a = asking image b (list buffer) _ refl a
+  step-at image b (read name buffer) h a = asking image b (read name buffer) _ refl a
+  step-at image b (save name m) h a = writing image b (save name m) (λ G d. saveOn G d name m) a (λ ws p. save-state bounded (a .state) name m ws (h .3) p)
+  step-at image b (delete name) h a = writing image b (delete name) (λ G d. deleteOn G d name) a (λ ws p. delete-state bounded (a .state) name ws p)
+  step-at image b (rename old new) h a = writing image b (rename old new) (λ G d. renameOn G d old new) a (λ ws p. rename-state bounded (a .state) old new ws p)
+  step-at image b (protect name v) h a = writing image b (protect name v) (λ G d. protectOn G d name v) a (λ ws p. protect-state bounded (a .state) name v ws p)
+  step-at image b check h a = asking image b check _ refl a
+  step-at image b (view x y) h a = asking image b (view x y) _ refl a
+
+  start-at : broken G (cut G s) ≡ 0 → At s (openingBook G (cut G s))
+  unfolding openingBook sumDirectory entries slots
+  start-at e =
+      let d : Disc = cut G s in
+      let n : ℕ = length (entriesOf d (directory G d)) in
+      let few : n ≤ slotsEach * length (directory G d) = omega (arith, inUse-many (slotsOf d (directory G d)), slots-many d (directory G d)) in
+      let m : length (filesOf G d (directory G d)) ≡ n = length-map (entriesOf d (directory G d)) (fileOf G d) in
+      record {
+        long = refl;
+        state = record {
+          dir = directory G d;
+          frees = free G d;
+          laid = sound-laid G d e;
+          full = cut-full G s (size .long);
+          same-files = as-is;
+          directory-size = omega arith;
+          below-peak = omega arith;
+        };
+      }
+
+  run-at : (cs : List Command) (k : ℕ) (image : List ℕ) (b : Book) → AllHanded cs → k ≤ length cs → At image b → At (run F image (take k cs)) (bookAfter F b image (take k cs))
+  unfolding run bookAfter
+  run-at cs zero image b h l a = a
+  run-at [] (suc k) image b h l a = absurd (omega arith)
+  run-at (c ∷ cs) (suc k) image b h l a = run-at cs k (step F image c .image) (entered b c (step F image c .number)) (h .1) (omega arith) (step-at image b c (h .0) a)
+
+  pub run-moment : broken G (cut G s) ≡ 0 → (cs : List Command) → AllHanded cs → (k : ℕ) → k ≤ length cs
+      → Moment F G s (run F s (take k cs)) (bookAfter F (openingBook G (cut G s)) s (take k cs))
+  run-moment e cs handed k l =
+      let a = run-at cs k s (openingBook G (cut G s)) handed l (start-at e) in
+      moment F G s (run F s (take k cs)) (bookAfter F (openingBook G (cut G s)) s (take k cs)) (same-geometry a) (a .long) (a .state)
+
+-- what the check's answer says of the disc
+pub checked-sound : (F : Format) (s : List ℕ) (G : Geometry) → geometry F (length s) ≡ ok G → afterCheck F s ≡ isSound → broken G (cut G s) ≡ 0
+unfolding afterCheck checkAnswerBy asked _>>=_ valueOr
+checked-sound F s G g e = ap (λ (c : CheckAnswer). c .rule) (rw g at e)
+
+-- for every kind of disc
+pub demand-3-of : (F : Format) → SoundFormat F → Demand3 F
+unfolding Demand3
+demand-3-of F f s G g checked cs handed k l = run-moment F f s G g (checked-sound F s G g checked) cs handed k l
+
+pub ten-sound : SoundFormat ten
+unfolding ten
+ten-sound = record { some-sector = omega arith; few = omega arith }
+
+-- the disc of document 01
+pub demand-3 : Demand3 ten
+demand-3 = demand-3-of ten ten-sound

@@ -1,0 +1,194 @@
+-- What the state says at one moment: the claim of demand 3 about it.
+-- Assumes nothing.
+use mathlib.Core.Path.{_≡_, refl, sym, ap, ap₂, _∙_, subst}
+use Prim.Native.Nat.{ℕ, _+_, _*_, _≤_}
+use native.Mathlib.Omega.{arith}
+use mathlib.Core.Bool.{Bool, not, cond, true, false, true≢false}
+use mathlib.Core.Option.{Option, none, some}
+use mathlib.Core.List.{List, [], _∷_, map, _++_, head?, map-map}
+use lib.ListN.{length, getElem?}
+use lib.Seq.{length-take-le}
+use lib.Dec.{eqb, ltb}
+use borrow.Author.Tests.{ne-eqb, eq-eqb}
+use Rattle.format.specs.Lists.{any, filter, sum}
+use Rattle.format.specs.ListLaws.{true-and, All, all-map, all-both, true-all, Once, all-mapped, same-refl}
+use Rattle.format.specs.Refusals.{Refusal, NAME, UNSOUND, ABSENT, TAKEN, MODULE, ROOM, NOT-PLAIN, SHORT, Try, refused, ok, _>>=_, _>>_, refuse_if_, _orRefuse_, number, valueOr}
+use Rattle.format.specs.Geometry.{Format, Geometry, sectors, geometry, Disc, cut, Write}
+use Rattle.format.specs.Names.{stored}
+use Rattle.format.specs.NameLaws.{legal-typed}
+use Rattle.format.specs.Layout.{slotsEach, Slot, nameOf, lengthOf, free, openSlot, find, fileSectors, places}
+use Rattle.format.specs.ChainLaws.{chain-ends}
+use Rattle.format.specs.Modules.{Module, allowed, sectorsFor}
+use Rattle.format.specs.Effects.{isSome, growth, needed, saveWrites, reading}
+use Rattle.format.specs.Calls.{readOn, saveBeforeOn, saveOn, asked, changed, answerBy, checkAnswerBy, readAnswerBy, afterCheck, afterRead, afterSave}
+use Rattle.format.specs.History.{File, Book, named, says, sumDirectory, sumFiles, sumFree, sumNeed, saveSays}
+use Rattle.format.specs.Demand3.{allEnd, Moment}
+use Rattle.soundness.specs.NameCounts.{ofName}
+use Rattle.soundness.specs.Slots.{inUse-all, SlotOf, slots-of}
+use Rattle.soundness.specs.Filed.{GoodEntry, chain-few, entriesOf, chainsOf, dir-few, directory-is, entries-are}
+use Rattle.soundness.specs.Laid.{free-few, free-is, laid-sound}
+use Rattle.soundness.specs.Frames.{laid-sum}
+use Rattle.soundness.specs.Found.{slot-length, find-is, open-none, open-some}
+use Rattle.history.specs.Permutations.{perm-map, perm-filter, perm-length, perm-all, perm-back, perm-few, perm-sum}
+use Rattle.history.specs.OnlyOne.{any-head, one-at, all-got}
+use Rattle.history.specs.BookFiles.{fileOf, filesOf, named-files, named-few}
+use Rattle.history.specs.Answers.{number-same}
+use Rattle.history.specs.State.{State, files-many}
+
+-- what read gives by the book, whose file of the name is f, if there is one
+gives : Option File → (room : ℕ) → Try Refusal Module
+gives none room = refused ABSENT
+gives (some f) room = says (f .reading) room
+
+-- the answers of a save by the disc and by the book, where their tests agree
+same-answer : (o : Option (List ℕ)) (c : Bool) (t t′ : List ℕ → Bool) (r r′ : Bool) (ws : List ℕ → List Write) → ((nine : List ℕ) → t nine ≡ t′ nine) → r ≡ r′
+    → number ((o orRefuse NAME >>= λ nine. (refuse MODULE if c >> (refuse UNSOUND if false >> (refuse TAKEN if t nine >> ok nine)))) >>= λ nine. (refuse ROOM if r >> ok (ws nine)))
+    ≡ number (o orRefuse NAME >>= λ nine. (refuse MODULE if c >> (refuse TAKEN if t′ nine >> refuse ROOM if r′)))
+unfolding number _orRefuse_ _>>=_ _>>_ refuse_if_
+same-answer none c t t′ r r′ ws e f = refl
+same-answer (some nine) c t t′ r r′ ws e f = rw (e nine, f) (by c (t′ nine) r′)
+  where
+    by : (c t r : Bool)
+        → number ((refuse MODULE if c >> (refuse UNSOUND if false >> (refuse TAKEN if t >> ok nine))) >>= λ nine. (refuse ROOM if r >> ok (ws nine)))
+        ≡ number (refuse MODULE if c >> (refuse TAKEN if t >> refuse ROOM if r))
+    by true t r = refl
+    by false true r = refl
+    by false false true = refl
+    by false false false = refl
+
+module _ {G : Geometry} {start d : Disc} {b : Book} (st : State G start d b) where
+  -- ---- each sector in one place
+
+  places-are : places G d ≡ st .dir ++ chainsOf G d (entriesOf d (st .dir)) ++ st .frees
+  unfolding fileSectors
+  places-are = rw (directory-is (st .laid .filed), entries-are (st .laid .filed), free-is (st .laid))
+
+  all-ends : allEnd G d ≡ true
+  unfolding allEnd
+  all-ends =
+      true-and (true-and (chain-ends G d (sectors G) (st .laid .filed .directory-chain) (dir-few (st .laid .filed))) (chain-ends G d (sectors G) (st .laid .free-chain) (free-few (st .laid))))
+      (rw (entries-are (st .laid .filed)) (true-all (all-map (λ s f. chain-ends G d (sectors G) (f .chained) (chain-few G d s)) (st .laid .filed .good-chains))))
+
+  -- ---- the sum
+
+  files-sum : sumFiles G start b ≡ sum (map lengthOf (entriesOf d (st .dir)))
+  unfolding sumFiles
+  files-sum = perm-sum (perm-map (λ (f : File). f .count) (st .same-files)) ∙ ap sum (map-map (λ (f : File). f .count) (fileOf G d) (entriesOf d (st .dir)))
+
+  free-sum : sumFree G start b ≡ length (free G d)
+  unfolding sumFree
+  free-sum = omega (arith, laid-sum (st .laid), st .directory-size, files-sum, ap length (free-is (st .laid)))
+
+  added-sum : length (free G d) + 1 + sumDirectory G start b + sumFiles G start b ≡ sectors G
+  added-sum = omega (arith, laid-sum (st .laid), st .directory-size, files-sum, ap length (free-is (st .laid)), st .laid .filed .some-directory)
+
+  growth-is : growth G d ≡ cond (eqb (length (b .files)) (slotsEach * sumDirectory G start b)) 1 0
+  unfolding growth
+  growth-is = case (openSlot G d) refl
+    where
+      case : (o : Option Slot) → openSlot G d ≡ o → _≡_ {A = ℕ} (cond (isSome o) 0 1) (cond (eqb (length (b .files)) (slotsEach * sumDirectory G start b)) 1 0)
+      case none o = sym (ap (λ (c : Bool). cond c 1 0) (eq-eqb (length (b .files)) (slotsEach * sumDirectory G start b) (omega (arith, files-many st, open-none (st .laid .filed) o, st .directory-size))))
+      case (some s) o = sym (ap (λ (c : Bool). cond c 1 0) (ne-eqb (length (b .files)) (slotsEach * sumDirectory G start b) (λ e. omega (arith, files-many st, open-some (st .laid .filed) s o, st .directory-size))))
+
+  need-is : (m : Module) → sumNeed G start b m ≡ needed G d (length (m .bytes))
+  unfolding sumNeed needed
+  need-is m = ap (λ (k : ℕ). sectorsFor (length (m .bytes)) + k) (sym growth-is)
+
+  -- ---- the file of a name
+
+  asFile : Option Slot → Option File
+  asFile none = none
+  asFile (some s) = some (fileOf G d s)
+
+  head-file : (ss : List Slot) → head? (map (fileOf G d) ss) ≡ asFile (head? ss)
+  unfolding asFile
+  head-file [] = refl
+  head-file (s ∷ ss) = refl
+
+  -- the book's file of a name is the disc's
+  look : (nine : List ℕ) → head? (filter (named nine) (b .files)) ≡ asFile (find G d nine)
+  look nine =
+      ap head? (perm-few (filter (named nine) (b .files)) (filter (named nine) (filesOf G d (st .dir))) (perm-filter (named nine) (st .same-files)) (named-few (st .laid .filed) nine)
+      ∙ named-files G d nine (entriesOf d (st .dir)))
+      ∙ head-file (ofName nine (entriesOf d (st .dir))) ∙ ap asFile (sym (find-is (st .laid .filed) nine))
+
+  named-once : (nine : List ℕ) → length (filter (named nine) (b .files)) ≤ 1
+  named-once nine = omega (arith, perm-length (perm-filter (named nine) (st .same-files)), named-few (st .laid .filed) nine)
+
+  taken : (nine : List ℕ) → isSome (find G d nine) ≡ any (named nine) (b .files)
+  unfolding asFile
+  taken nine = sym (any-head (named nine) (b .files) ∙ ap isSome (look nine) ∙ case (find G d nine))
+    where
+      case : (o : Option Slot) → isSome (asFile o) ≡ isSome o
+      case none = refl
+      case (some s) = refl
+
+  -- ---- what a save answers
+
+  save-on : (name : List ℕ) (m : Module) → number (saveOn G d name m) ≡ number (saveSays G start b name m)
+  unfolding saveOn saveBeforeOn saveSays
+  save-on name m =
+      rw (laid-sound (st .laid)) (same-answer (stored name) (not (allowed m)) (λ nine. isSome (find G d nine)) (λ nine. any (named nine) (b .files))
+      (ltb (length (free G d)) (needed G d (length (m .bytes)))) (ltb (sumFree G start b) (sumNeed G start b m)) (λ nine. saveWrites G d nine m)
+      taken (ap₂ ltb (sym free-sum) (sym (need-is m))))
+
+  -- ---- what a read gives
+
+  read-on : (typed nine : List ℕ) (room : ℕ) → stored typed ≡ some nine → readOn G d typed room ≡ gives (head? (filter (named nine) (b .files))) room
+  unfolding readOn asFile gives says _orRefuse_ _>>=_ _>>_ refuse_if_
+  read-on typed nine room e =
+      rw (e, laid-sound (st .laid)) (case (find G d nine) ∙ ap (λ (o : Option File). gives o room) (sym (look nine)))
+    where
+      inner : (s : Slot) (r : Option Module) → reading G d s ≡ r
+          → (reading G d s orRefuse NOT-PLAIN >>= λ m. (refuse SHORT if ltb room (length (m .bytes)) >> ok m)) ≡ gives (some (fileOf G d s)) room
+      inner s none e = rw e
+      inner s (some m) e = rw e
+
+      case : (o : Option Slot) → (o orRefuse ABSENT >>= λ s. (reading G d s orRefuse NOT-PLAIN >>= λ m. (refuse SHORT if ltb room (length (m .bytes)) >> ok m))) ≡ gives (asFile o) room
+      case none = refl
+      case (some s) = inner s (reading G d s) refl
+
+  file-reads : (i : ℕ) (f : File) → getElem? (b .files) i ≡ some f → (typed : List ℕ) (room : ℕ) → stored typed ≡ some (f .name) → readOn G d typed room ≡ says (f .reading) room
+  unfolding gives
+  file-reads i f e typed room t =
+      read-on typed (f .name) room t ∙ ap (λ (fs : List File). gives (head? fs) room) (one-at (named (f .name)) (b .files) i f e (same-refl (f .name)) (named-once (f .name)))
+
+  absent-reads : (typed nine : List ℕ) (room : ℕ) → stored typed ≡ some nine → any (named nine) (b .files) ≡ false → readOn G d typed room ≡ refused ABSENT
+  unfolding gives
+  absent-reads typed nine room t e =
+      read-on typed nine room t ∙ case (head? (filter (named nine) (b .files))) (sym (any-head (named nine) (b .files)) ∙ e)
+    where
+      case : (o : Option File) → isSome o ≡ false → gives o room ≡ refused ABSENT
+      case none q = refl
+      case (some f) q = absurd (true≢false q)
+
+  -- ---- every name in the book can be typed
+
+  all-typable : All (λ f. (typed : List ℕ) × (stored typed ≡ some (f .name))) (b .files)
+  all-typable =
+      perm-all (perm-back (st .same-files))
+      (all-mapped (fileOf G d) (all-map each (all-both (st .laid .filed .good-entries) (inUse-all (slots-of d (st .dir))))))
+    where
+      each : (s : Slot) → GoodEntry s × SlotOf d (st .dir) s → (typed : List ℕ) × (stored typed ≡ some (nameOf s))
+      each s h = legal-typed (nameOf s) (length-take-le 9 (s .bytes) (omega (arith, slot-length (st .laid .filed) s (h .1) (st .full)))) (h .0 .legal)
+
+-- ---- the moment
+
+pub moment : (F : Format) (G : Geometry) (s image : List ℕ) (b : Book) → geometry F (length image) ≡ ok G → length image ≡ length s → State G (cut G s) (cut G image) b → Moment F G s image b
+unfolding asked changed _>>=_ number valueOr afterCheck checkAnswerBy afterSave answerBy afterRead
+moment F G s image b g long st =
+    let o = subst (Once (sectors G)) (sym (places-are st)) (st .laid .once) in
+    record {
+      size = long;
+      checked = rw g (ap (λ (k : ℕ). record { number = 0; rule = k }) (laid-sound (st .laid)));
+      ending = all-ends st;
+      once = o .inside;
+      system-never = o .zeroth;
+      free-chain = sym (free-sum st);
+      free-count = st .laid .free-counted ∙ sym (ap length (free-is (st .laid))) ∙ sym (free-sum st);
+      free-added = added-sum st;
+      saves = λ name m. rw g (number-same (saveOn G (cut G image) name m) _ ∙ save-on st name m);
+      reads = λ i f e typed buffer t. rw g (ap (readAnswerBy buffer) (file-reads st i f e typed (length buffer) t));
+      typable = λ i f e. all-got i f (all-typable st) e;
+      absent = λ typed nine buffer t e. rw g (ap (readAnswerBy buffer) (absent-reads st typed nine (length buffer) t e));
+    }

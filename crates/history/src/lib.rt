@@ -1,0 +1,1 @@
+// Demand 3 and its proof: all of this crate is in specs/.

@@ -1,0 +1,176 @@
+-- Laws of Meaning: entries and records slot by slot, how many bytes they are, and where their bytes come from.
+-- Assumes nothing.
+use mathlib.Core.Path.{_≡_, refl, sym, ap, ap₂, _∙_}
+use Prim.Native.Nat.{ℕ, suc, _+_, _*_, _/_, _%_, _-_, _≤_, _<_}
+use native.Mathlib.Omega.{arith}
+use mathlib.Core.Bool.{Bool, true, false, not}
+use mathlib.Core.List.{List, [], _∷_, _++_, map, append-assoc, append-nil}
+use lib.ListN.{length, take, drop, length-append, length-drop}
+use lib.Seq.{length-take-le}
+use Rattle.format.specs.Lists.{word, consIf, filter, joined}
+use Rattle.format.specs.ListLaws.{All, done, _also_, all-map, all-filter, all-joined, all-mapped, range-all, filter-join, filter-yes, filter-no, joined-join}
+use Rattle.format.specs.Geometry.{Geometry, sectors, startOf, Disc, sector}
+use Rattle.format.specs.GeometryLaws.{pointed-on, sector-full, cut-full}
+use Rattle.format.specs.ChainLaws.{met-few, met-below}
+use Rattle.format.specs.Layout.{discNamePlace, slotsEach, slotStart, freeCount, usedCount, discNameOf, Slot, freeSlot, inUse, nameOf, lengthOf, attributeOf, slotAt, slotsAt, slotsOf, directoryPointer, directory, slots, entries}
+use Rattle.format.specs.Effects.{listing}
+use Rattle.disc.specs.Meaning.{geo, sectorsOf, Image}
+use Rattle.disc.specs.declared.Geometry as code
+use Rattle.slots.specs.Laws.{name-front, name-nine, part-cut}
+use Rattle.directory.specs.Laws.{slotsFrom, slots-step, slots-end, slots-none, slots-cons}
+use Rattle.listing.specs.Meaning.{discRecord, entryRecord, recordsOf}
+
+-- ---- entries and records, slot by slot
+
+used-join : (xs ys : List Slot) → inUse (xs ++ ys) ≡ inUse xs ++ inUse ys
+unfolding inUse
+used-join xs ys = filter-join (λ s. not (freeSlot s)) xs ys
+
+module _ (s : Slot) where
+  pub used-none : freeSlot s ≡ true → inUse (s ∷ []) ≡ []
+  unfolding inUse
+  used-none e = filter-no (λ s. not (freeSlot s)) s [] (ap not e)
+
+  pub used-one : freeSlot s ≡ false → inUse (s ∷ []) ≡ s ∷ []
+  unfolding inUse
+  used-one e = filter-yes (λ s. not (freeSlot s)) s [] (ap not e)
+
+  pub records-free : freeSlot s ≡ true → recordsOf (s ∷ []) ≡ []
+  unfolding recordsOf
+  records-free e = ap (λ (ss : List Slot). joined (map entryRecord ss)) (used-none e)
+
+  pub records-one : freeSlot s ≡ false → recordsOf (s ∷ []) ≡ entryRecord s
+  unfolding recordsOf
+  records-one e = ap (λ (ss : List Slot). joined (map entryRecord ss)) (used-one e) ∙ append-nil (entryRecord s)
+
+pub records-none : recordsOf [] ≡ []
+unfolding recordsOf inUse
+records-none = refl
+
+records-join : (xs ys : List Slot) → recordsOf (xs ++ ys) ≡ recordsOf xs ++ recordsOf ys
+unfolding recordsOf
+records-join xs ys = ap (λ (ss : List Slot). joined (map entryRecord ss)) (used-join xs ys) ∙ joined-join entryRecord (inUse xs) (inUse ys)
+
+module _ (d : Disc) where
+  -- the slots of a sector from slot i on
+  module _ (n i : ℕ) (h : i < slotsEach) where
+    pub used-step : length (inUse (slotsFrom d n i)) ≡ length (inUse (slotAt d n i ∷ [])) + length (inUse (slotsFrom d n (i + 1)))
+    used-step =
+        ap (λ (ss : List Slot). length (inUse ss)) (slots-step d n i h)
+        ∙ ap length (used-join (slotAt d n i ∷ []) (slotsFrom d n (i + 1)))
+        ∙ length-append (inUse (slotAt d n i ∷ [])) (inUse (slotsFrom d n (i + 1)))
+
+    pub records-step : recordsOf (slotsFrom d n i) ≡ recordsOf (slotAt d n i ∷ []) ++ recordsOf (slotsFrom d n (i + 1))
+    records-step = ap recordsOf (slots-step d n i h) ∙ records-join (slotAt d n i ∷ []) (slotsFrom d n (i + 1))
+
+  pub used-end : (n i : ℕ) → slotsEach ≤ i → length (inUse (slotsFrom d n i)) ≡ 0
+  unfolding inUse
+  used-end n i h = ap (λ (ss : List Slot). length (inUse ss)) (slots-end d n i h)
+
+  -- the slots of a sector, and of those after it
+  module _ (n : ℕ) (ns : List ℕ) where
+    pub used-cons : length (inUse (slotsOf d (n ∷ ns))) ≡ length (inUse (slotsAt d n)) + length (inUse (slotsOf d ns))
+    used-cons =
+        ap (λ (ss : List Slot). length (inUse ss)) (slots-cons d n ns)
+        ∙ ap length (used-join (slotsAt d n) (slotsOf d ns))
+        ∙ length-append (inUse (slotsAt d n)) (inUse (slotsOf d ns))
+
+    pub records-cons : recordsOf (slotsOf d (n ∷ ns)) ≡ recordsOf (slotsAt d n) ++ recordsOf (slotsOf d ns)
+    records-cons = ap recordsOf (slots-cons d n ns) ∙ records-join (slotsAt d n) (slotsOf d ns)
+
+  pub used-over : length (inUse (slotsOf d [])) ≡ 0
+  unfolding inUse
+  used-over = ap (λ (ss : List Slot). length (inUse ss)) (slots-none d)
+
+pub entries-are : (G : Geometry) (d : Disc) → entries G d ≡ inUse (slotsOf d (directory G d))
+unfolding entries slots
+entries-are G d = refl
+
+-- ---- how many
+
+consIf-few : {A : Type 0} (b : Bool) (x : A) (xs : List A) (n : ℕ) → length xs ≤ n → length (consIf b x xs) ≤ suc n
+consIf-few true x xs n h = omega arith
+consIf-few false x xs n h = omega arith
+
+filter-few : {A : Type 0} (p : A → Bool) (xs : List A) → length (filter p xs) ≤ length xs
+filter-few p [] = omega arith
+filter-few p (x ∷ xs) = consIf-few (p x) x (filter p xs) (length xs) (filter-few p xs)
+
+pub used-few : (d : Disc) (n : ℕ) → length (inUse (slotsAt d n)) ≤ slotsEach
+unfolding inUse slotsAt
+used-few d n = filter-few (λ s. not (freeSlot s)) (slotsAt d n)
+
+used-all : (d : Disc) (ns : List ℕ) → length (inUse (slotsOf d ns)) ≤ slotsEach * length ns
+used-all d [] = omega (arith, used-over d)
+used-all d (n ∷ ns) = omega (arith, used-cons d n ns, used-few d n, used-all d ns)
+
+pub entries-few : {g : code.Geometry} {image : List ℕ} → Image g image → length (entries (geo g) (sectorsOf g image)) ≤ slotsEach * g .sectors
+unfolding directory
+entries-few {g} {image} im =
+    let d : Disc = sectorsOf g image in
+    omega (arith, im .valid .total, ap length (entries-are (geo g) d), used-all d (directory (geo g) d), met-few (geo g) d (sectors (geo g)) (directoryPointer (geo g) d))
+
+-- ---- how many bytes
+
+-- the slots of an image have nine name bytes each
+abbrev Nine : Slot → Type 0
+Nine s = length (nameOf s) ≡ 9
+
+one-long : (s : Slot) → Nine s → length (entryRecord s) ≡ 13
+one-long s e = omega (arith, length-append (nameOf s ++ word (lengthOf s)) (attributeOf s ∷ []), length-append (nameOf s) (word (lengthOf s)))
+
+all-long : {ss : List Slot} → All Nine ss → length (joined (map entryRecord ss)) ≡ 13 * length ss
+all-long done = refl
+all-long (_also_ {x = s} {xs = ss} h hs) = length-append (entryRecord s) (joined (map entryRecord ss)) ∙ omega (arith, one-long s h, all-long hs)
+
+pub listing-parts : (G : Geometry) (d : Disc) → listing G d ≡ discRecord d ++ (recordsOf (slots G d) ++ 0 ∷ [])
+unfolding listing entries recordsOf
+listing-parts G d = append-assoc (discRecord d) (recordsOf (slots G d)) (0 ∷ [])
+
+module _ {g : code.Geometry} {image : List ℕ} (im : Image g image) where
+  names-nine : All Nine (slots (geo g) (sectorsOf g image))
+  unfolding slots slotsOf slotsAt directory
+  names-nine =
+      let d : Disc = sectorsOf g image in
+      all-joined (all-map (λ n on. all-mapped (slotAt d n) (range-all 0 slotsEach (λ i l h. name-nine im n i (omega (arith, im .valid .total)) h)))
+      (met-below (geo g) d (sectors (geo g)) (directoryPointer (geo g) d) (pointed-on (geo g) _ _)))
+
+  disc-nine : length (discNameOf (sectorsOf g image)) ≡ 9
+  disc-nine =
+      let system : List ℕ = sector (sectorsOf g image) 0 in
+      let long = sector-full (cut-full (geo g) image (omega (arith, im .long, im .valid .total))) 0 (omega (arith, im .valid .total)) in
+      length-take-le 9 (drop discNamePlace system) (omega (arith, length-drop discNamePlace system))
+
+  pub disc-long : length (discRecord (sectorsOf g image)) ≡ 14
+  disc-long =
+      let d : Disc = sectorsOf g image in
+      omega (arith, disc-nine, length-append (discNameOf d ++ word (freeCount d)) (word (usedCount d)), length-append (discNameOf d) (word (freeCount d)))
+
+  pub entry-long : (n i : ℕ) → n < g .sectors → i < slotsEach → length (entryRecord (slotAt (sectorsOf g image) n i)) ≡ 13
+  entry-long n i on h = one-long (slotAt (sectorsOf g image) n i) (name-nine im n i on h)
+
+  pub listing-long : length (listing (geo g) (sectorsOf g image)) ≡ 14 + 13 * length (entries (geo g) (sectorsOf g image)) + 1
+  unfolding entries recordsOf inUse
+  listing-long =
+      let G = geo g in
+      let d : Disc = sectorsOf g image in
+      ap length (listing-parts G d)
+      ∙ length-append (discRecord d) (recordsOf (slots G d) ++ 0 ∷ [])
+      ∙ omega (arith, disc-long, length-append (recordsOf (slots G d)) (0 ∷ []), all-long (all-filter (λ s. not (freeSlot s)) names-nine))
+
+  -- ---- where the bytes of a record come from
+
+  -- nine bytes of sector n from place k on, where they lie in the image
+  pub nine-at : (n k start : ℕ) → n < g .sectors → k + 9 ≤ 256 → start ≡ startOf (geo g) n + k
+      → take (start + 9 - start) (drop start image) ≡ take 9 (drop k (sector (sectorsOf g image) n))
+  nine-at n k start on fits e =
+      let nine : start + 9 - start ≡ 9 = omega arith in
+      ap₂ (λ (L j : ℕ). take L (drop j image)) nine e ∙ part-cut im n k 9 on fits
+
+  pub name-at : (n i start : ℕ) → n < g .sectors → i < slotsEach → start ≡ startOf (geo g) n + slotStart i
+      → take (start + 9 - start) (drop start image) ≡ nameOf (slotAt (sectorsOf g image) n i)
+  name-at n i start on h e = nine-at n (slotStart i) start on (omega arith) e ∙ sym (name-front (sectorsOf g image) n i)
+
+-- the two bytes of a sixteen-bit number
+pub two-bytes : {low high m n : ℕ} → low ≡ m % 256 → high ≡ m / 256 % 256 → m ≡ n → _≡_ {A = List ℕ} (low ∷ high ∷ []) (word n)
+two-bytes l h e = ap₂ (λ (x y : ℕ). x ∷ y ∷ []) l h ∙ ap word e

@@ -1,0 +1,41 @@
+-- Laws of the whole listing: the record of the disc, those of the entries and the last byte, stored one after the other.
+-- Assumes nothing.
+use mathlib.Core.Path.{_≡_, refl, _∙_}
+use Prim.Native.Nat.{ℕ, _+_, _≤_, _<_}
+use native.Mathlib.Omega.{arith}
+use mathlib.Core.List.{List, [], _∷_, _++_}
+use lib.ListN.{length, set}
+use Rattle.format.specs.Lists.{front}
+use Rattle.format.specs.Geometry.{Geometry, Disc}
+use Rattle.format.specs.Layout.{slots}
+use Rattle.format.specs.Effects.{listing}
+use Rattle.listing.specs.Meaning.{discRecord, recordsOf, Stored}
+use Rattle.listing.specs.Laws.{listing-parts}
+use Rattle.listing.specs.Storing.{Storing, storing-all, storing-step, storing-room, sets-front}
+
+module _ (G : Geometry) (d : Disc) (b : List ℕ) (room : length (listing G d) ≤ length b) where
+  at-start : Storing b 0 (listing G d) b 0 (discRecord d ++ (recordsOf (slots G d) ++ 0 ∷ []))
+  at-start = storing-all b 0 (listing-parts G d)
+
+  pub room-disc : length (discRecord d) ≤ length b
+  room-disc = omega (arith, storing-room (discRecord d) (recordsOf (slots G d) ++ 0 ∷ []) at-start refl (omega arith))
+
+  module _ {b′ : List ℕ} {at : ℕ} (disc : Stored b 0 (discRecord d) b′ at) where
+    after-disc : Storing b 0 (listing G d) b′ at (recordsOf (slots G d) ++ 0 ∷ [])
+    after-disc = storing-step (discRecord d) (recordsOf (slots G d) ++ 0 ∷ []) at-start refl disc
+
+    pub room-entries : at + length (recordsOf (slots G d)) ≤ length b′
+    room-entries = storing-room (recordsOf (slots G d)) (0 ∷ []) after-disc refl (omega arith)
+
+    module _ {b″ : List ℕ} {last : ℕ} (entries : Stored b′ at (recordsOf (slots G d)) b″ last) where
+      after-entries : Storing b 0 (listing G d) b″ last (0 ∷ [])
+      after-entries = storing-step (recordsOf (slots G d)) (0 ∷ []) after-disc refl entries
+
+      pub room-last : last < length b″
+      room-last = omega (arith, storing-room (0 ∷ []) [] after-entries refl (omega arith))
+
+      pub same-long : length b″ ≡ length b
+      same-long = after-entries .long
+
+      pub whole : set b″ last 0 ≡ front (listing G d) b
+      whole = after-entries .buffer ∙ sets-front b (listing G d) room

@@ -1,0 +1,185 @@
+// The records of the list command: their length, and their bytes at the front of a lent buffer.
+// They are what stands on the disc, sound or not.
+use directory::Step;
+use disc::Geometry;
+use disc::SectorNo;
+ghost use mathlib.Core.Path.{_≡_};
+ghost use mathlib.Core.List.{[], _∷_, _++_};
+ghost use Prim.Native.Nat.{_+_, _*_, _/_, _%_, _≤_, _<_};
+ghost use lib.ListN.{length};
+ghost use lib.Seq.{sets};
+ghost use Rattle.format.specs.Lists.{front};
+ghost use Rattle.format.specs.Layout.{slotsEach, inUse, slotAt, slotsAt, slots, entries};
+ghost use Rattle.format.specs.Effects.{listing};
+ghost use Rattle.disc.specs.Meaning.{geo, sectorsOf, Image};
+ghost use Rattle.listing.specs.Meaning.{entryRecord, recordsOf, discRecord, Stored};
+
+// 1 for a slot with an entry, 0 for a free one.
+fn count_slot(image: &[u8], g: Geometry, n: SectorNo, i: usize) -> usize
+    requires { ⌜ Image g (now image) × (n .0 < g .sectors) × (i < slotsEach) ⌝ }
+    ensures { λ r. ⌜ r ≡ length (inUse (slotAt (sectorsOf g (now (image .entry))) (n .0) i ∷ [])) ⌝ }
+{
+    if slots::slot_free(image, g, n, i) {
+        return 0;
+    }
+    1
+}
+
+// The entries of directory sector n.
+fn count_sector(image: &[u8], g: Geometry, n: SectorNo) -> usize
+    requires { ⌜ Image g (now image) × (n .0 < g .sectors) ⌝ }
+    ensures { λ r. ⌜ r ≡ length (inUse (slotsAt (sectorsOf g (now (image .entry))) (n .0))) ⌝ }
+{
+    let mut count: usize = 0;
+    let mut i: usize = 0;
+    while i < 15 {
+        count += count_slot(image, g, n, i);
+        i += 1;
+    }
+    count
+}
+
+// All entries; there are at most 15 for each sector.
+fn count_entries(image: &[u8], g: Geometry) -> usize
+    requires { ⌜ Image g (now image) ⌝ }
+    ensures { λ r. ⌜ (r ≡ length (entries (geo g) (sectorsOf g (now (image .entry))))) × (r ≤ slotsEach * g .sectors) ⌝ }
+{
+    let mut count: usize = 0;
+    let mut rest = directory::start(image, g);
+    loop {
+        let next = directory::advance(image, g, rest);
+        let Step::Sector(n, after) = next else {
+            return count;
+        };
+        count += count_sector(image, g, n);
+        rest = after;
+    }
+}
+
+// The length of all records: 14 bytes for the disc, 13 for an entry, 1 at the end.
+pub fn listing_length(image: &[u8], g: Geometry) -> usize
+    requires { ⌜ Image g (now image) ⌝ }
+    ensures { λ r. ⌜ r ≡ length (listing (geo g) (sectorsOf g (now (image .entry)))) ⌝ }
+{
+    14 + 13 * count_entries(image, g) + 1
+}
+
+fn low(n: u16) -> u8
+    ensures { λ r. ⌜ r ≡ n % 256 ⌝ }
+{
+    (n % 256) as u8
+}
+
+fn high(n: u16) -> u8
+    ensures { λ r. ⌜ r ≡ n / 256 % 256 ⌝ }
+{
+    (n / 256) as u8
+}
+
+// Stores bytes at a place of the buffer.
+fn put(buffer: &mut [u8], at: usize, bytes: &[u8])
+    requires { ⌜ at + length (now bytes) ≤ length (now buffer) ⌝ }
+    ensures { λ _. ⌜ now (buffer .exit) ≡ sets (now (buffer .entry)) at (now (bytes .entry)) ⌝ }
+{
+    let mut i: usize = 0;
+    while i < bytes.len() {
+        buffer[at + i] = bytes[i];
+        i += 1;
+    }
+}
+
+// Stores a record, and gives the place after it.
+fn put_record(buffer: &mut [u8], at: usize, kind: u8, name: &[u8], numbers: &[u8]) -> usize
+    requires { ⌜ at + (1 + length (now name) + length (now numbers)) ≤ length (now buffer) ⌝ }
+    ensures { λ r. ⌜ Stored (now (buffer .entry)) at (kind ∷ now (name .entry) ++ now (numbers .entry)) (now (buffer .exit)) r ⌝ }
+{
+    buffer[at] = kind;
+    put(buffer, at + 1, name);
+    let next = at + 1 + name.len();
+    put(buffer, next, numbers);
+    next + numbers.len()
+}
+
+// Stores the record of the disc.
+fn put_disc(image: &[u8], g: Geometry, buffer: &mut [u8]) -> usize
+    requires { ⌜ Image g (now image) × (14 ≤ length (now buffer)) ⌝ }
+    ensures { λ r. ⌜ Stored (now (buffer .entry)) 0 (discRecord (sectorsOf g (now (image .entry)))) (now (buffer .exit)) r ⌝ }
+{
+    let start = disc::start_of(g, SectorNo(0)) + 0x18;
+    let end = start + 9;
+    let free = disc::word_of(image, g, SectorNo(0), 0x14);
+    let used = disc::word_of(image, g, SectorNo(0), 0x16);
+    let counts = [low(free), high(free), low(used), high(used)];
+    put_record(buffer, 0, 1, &image[start..end], &counts)
+}
+
+// Stores the record of the entry in slot i of sector n.
+fn put_entry(
+    image: &[u8],
+    g: Geometry,
+    n: SectorNo,
+    i: usize,
+    buffer: &mut [u8],
+    at: usize,
+) -> usize
+    requires { ⌜ Image g (now image) × (n .0 < g .sectors) × (i < slotsEach) × (at + 13 ≤ length (now buffer)) ⌝ }
+    ensures { λ r. ⌜ Stored (now (buffer .entry)) at (entryRecord (slotAt (sectorsOf g (now (image .entry))) (n .0) i)) (now (buffer .exit)) r ⌝ }
+{
+    let start = disc::start_of(g, n) + slots::slot_start(i);
+    let end = start + 9;
+    let entry = directory::entry_of(image, g, n, i);
+    let numbers = [low(entry.length), high(entry.length), entry.attribute];
+    put_record(buffer, at, 2, &image[start..end], &numbers)
+}
+
+// Stores what slot i of sector n adds to the records: nothing where it is free.
+fn put_slot(image: &[u8], g: Geometry, n: SectorNo, i: usize, buffer: &mut [u8], at: usize) -> usize
+    requires { ⌜ Image g (now image) × (n .0 < g .sectors) × (i < slotsEach) × (at + length (recordsOf (slotAt (sectorsOf g (now image)) (n .0) i ∷ [])) ≤ length (now buffer)) ⌝ }
+    ensures { λ r. ⌜ Stored (now (buffer .entry)) at (recordsOf (slotAt (sectorsOf g (now (image .entry))) (n .0) i ∷ [])) (now (buffer .exit)) r ⌝ }
+{
+    if slots::slot_free(image, g, n, i) {
+        return at;
+    }
+    put_entry(image, g, n, i, buffer, at)
+}
+
+// Stores the records of directory sector n.
+fn put_sector(image: &[u8], g: Geometry, n: SectorNo, buffer: &mut [u8], at: usize) -> usize
+    requires { ⌜ Image g (now image) × (n .0 < g .sectors) × (at + length (recordsOf (slotsAt (sectorsOf g (now image)) (n .0))) ≤ length (now buffer)) ⌝ }
+    ensures { λ r. ⌜ Stored (now (buffer .entry)) at (recordsOf (slotsAt (sectorsOf g (now (image .entry))) (n .0))) (now (buffer .exit)) r ⌝ }
+{
+    let mut next = at;
+    let mut i: usize = 0;
+    while i < 15 {
+        next = put_slot(image, g, n, i, buffer, next);
+        i += 1;
+    }
+    next
+}
+
+// Stores the records of all entries.
+fn put_entries(image: &[u8], g: Geometry, buffer: &mut [u8], at: usize) -> usize
+    requires { ⌜ Image g (now image) × (at + length (recordsOf (slots (geo g) (sectorsOf g (now image)))) ≤ length (now buffer)) ⌝ }
+    ensures { λ r. ⌜ Stored (now (buffer .entry)) at (recordsOf (slots (geo g) (sectorsOf g (now (image .entry))))) (now (buffer .exit)) r ⌝ }
+{
+    let mut place = at;
+    let mut rest = directory::start(image, g);
+    loop {
+        let next = directory::advance(image, g, rest);
+        let Step::Sector(n, after) = next else {
+            return place;
+        };
+        place = put_sector(image, g, n, buffer, place);
+        rest = after;
+    }
+}
+
+// Writes all records to the front of a buffer that they fit in.
+pub fn put_listing(image: &[u8], g: Geometry, buffer: &mut [u8])
+    requires { ⌜ Image g (now image) × (length (listing (geo g) (sectorsOf g (now image))) ≤ length (now buffer)) ⌝ }
+    ensures { λ _. ⌜ now (buffer .exit) ≡ front (listing (geo g) (sectorsOf g (now (image .entry)))) (now (buffer .entry)) ⌝ }
+{
+    let first = put_disc(image, g, buffer);
+    let last = put_entries(image, g, buffer, first);
+    buffer[last] = 0;
+}

@@ -1,0 +1,107 @@
+-- `reading::copy_module` meets its contract. The loop's invariant: storing what is left of the bytes gives what storing all of them gives at the start.
+-- Assumes nothing.
+use mathlib.Core.Path.{_≡_, refl, sym, ap, _∙_}
+use Prim.Native.Nat.{ℕ, _+_, _-_, _≤_}
+use native.Mathlib.Omega.{arith}
+use mathlib.Core.List.{List, _++_}
+use lib.ListN.{length, take, drop, length-take}
+use lib.Seq.{sets, take-nil}
+use borrow.Author.Needs.{needs}
+use Rattle.format.specs.Geometry.{sector}
+use Rattle.format.specs.Modules.{plain}
+use Rattle.disc.specs.Meaning.{geo, sectorsOf}
+use Rattle.reading.specs.Plain.{laterBytes}
+use Rattle.reading.specs.Meaning.{bytesIn, bodiesOf, fileBodies, bodiesAfter, Followed}
+use Rattle.reading.specs.FileLaws.{file-followed, followed-leads, followed-step, bytes-step, none-follow}
+use Rattle.reading.specs.CopyLaws.{copied-on, copied-long, stored-front, file-bytes}
+use Rattle.reading.proofs.copy_module.Statement.{statement}
+use Rattle.reading.proofs.copy_module.Tie as tie
+
+abbrev Inv-loop : tie.InvT-loop
+Inv-loop image g count size buffer₀ at₀ n₀ j₀ buffer at n j =
+    (j ≤ count)
+    × Followed g image (n .0) (count - j)
+    × (at ≤ size)
+    × (length buffer ≡ length buffer₀)
+    × (sets buffer at (take (size - at) (laterBytes (bodiesAfter g image (n .0) (count - j))))
+    ≡ sets buffer₀ at₀ (take (size - at₀) (laterBytes (bodiesAfter g image (n₀ .0) (count - j₀)))))
+
+abbrev μ-loop : tie.MeasureT-loop
+μ-loop image g count size buffer₀ at₀ n₀ j₀ buffer at n j = count - j
+
+copy-part-requires : tie.Need-copy-part-requires Inv-loop μ-loop
+copy-part-requires c κs =
+    let pre = c .before .before .before .pre in
+    (pre .0 .on-image, pre .0 .on-disc, omega arith, omega arith, pre .2)
+
+loop-holds : tie.Need-loop-holds Inv-loop μ-loop
+loop-holds c = (c .before .before .before .before .before .before .pre .0 .some-sector, file-followed (c .before .before .before .before .before .before .pre .0), c .before .before .copy-part .ensures .inside, refl, refl)
+
+next-of-requires : tie.Need-next-of-requires Inv-loop μ-loop
+next-of-requires c κs =
+    let f = c .before .loop .inv .1 in
+    (c .before .before .before .before .before .before .before .before .pre .0 .on-image, f .on-disc, followed-leads _ _ _ f (c .loop-test .taken))
+
+copy-part-requires-2 : tie.Need-copy-part-requires-2 Inv-loop μ-loop
+copy-part-requires-2 c κs =
+    let long = copied-long (c .before .before .before .before .before .before .copy-part .ensures) in
+    (c .before .before .before .before .before .before .before .before .before .before .pre .0 .on-image, c .before .next-of .ensures .1, omega arith, c .before .before .before .loop .inv .2, omega (arith, long, c .before .before .before .loop .inv .3, c .before .before .before .before .before .before .before .before .before .before .pre .2))
+
+add-j : tie.Need-add-j Inv-loop μ-loop
+add-j c = search needs
+
+loop-less : tie.Need-loop-less Inv-loop μ-loop
+loop-less c = search needs
+
+loop-again : tie.Need-loop-again Inv-loop μ-loop
+loop-again c =
+    let a = c .before .before .before .before .before .before .before .before .before .before .before .before .before .args in
+    let inv = c .before .before .before .before .before .before .loop .inv in
+    let j : ℕ = c .before .before .before .before .before .before .loop .j in
+    let m : ℕ = c .before .before .before .before .next-of .result .0 in
+    let on = c .before .before .before .before .before .loop-test .taken in
+    let link = c .before .before .before .before .next-of .ensures .0 in
+    let copied = c .before .before .copy-part2 .ensures in (
+      omega arith,
+      followed-step (c .before .before .before .before .before .before .loop .n .0) (a .count) j (inv .1) on m link (c .before .before .before .before .next-of .ensures .1),
+      copied .inside,
+      copied-long copied ∙ inv .3,
+      copied-on copied (inv .2) (laterBytes (bodiesAfter (a .g) (a .image .now) m (a .count - (j + 1))))
+          ∙ ap (λ (xs : List ℕ). sets (c .before .before .before .before .before .before .loop .buffer) (c .before .before .before .before .before .before .loop .at) (take (a .size - c .before .before .before .before .before .before .loop .at) xs)) (sym (bytes-step (c .before .before .before .before .before .before .loop .n .0) (a .count) j (inv .1) on m link))
+          ∙ inv .4,
+    )
+
+same-length : tie.Need-same-length Inv-loop μ-loop
+same-length c = search needs
+
+returns : tie.Need-returns Inv-loop μ-loop
+returns c =
+    let a = c .before .before .before .before .before .before .before .before .args in
+    let d = sectorsOf (a .g) (a .image .now) in
+    let rest : List ℕ = laterBytes (bodiesAfter (a .g) (a .image .now) (a .first .0) (a .count - 1)) in
+    let left : ℕ = a .size - c .before .loop .at in
+    let end = ap (λ (ns : List ℕ). take left (laterBytes (bodiesOf d ns))) (none-follow (geo (a .g)) d (c .before .loop .n .0) (a .count - c .before .loop .j) (omega arith)) ∙ take-nil left in
+    let whole : a .size - 0 ≡ a .size = omega arith in
+    let bytes = file-bytes (c .before .before .before .before .before .before .before .before .pre .0) (a .size) (c .before .before .before .before .before .before .before .before .pre .1) in
+    sym (ap (sets (c .before .loop .buffer) (c .before .loop .at)) end)
+    ∙ c .before .loop .inv .4
+    ∙ copied-on (c .before .before .before .before .copy-part .ensures) (omega arith) rest
+    ∙ ap (λ (k : ℕ). sets (a .buffer .now) 0 (take k (drop 11 (sector d (a .first .0)) ++ rest))) whole
+    ∙ ap (sets (a .buffer .now) 0) bytes
+    ∙ stored-front (a .buffer .now) (bytesIn (plain (fileBodies (a .g) (a .image .now) (a .first .0) (a .count)))) (omega (arith, sym (ap length bytes), length-take (a .size) (drop 11 (sector d (a .first .0)) ++ rest), c .before .before .before .before .before .before .before .before .pre .2))
+
+pub copy-module-spec : {M : Type 1} → statement M
+copy-module-spec =
+    tie.close
+    (tie.spec
+    Inv-loop
+    μ-loop
+    copy-part-requires
+    loop-holds
+    next-of-requires
+    copy-part-requires-2
+    add-j
+    loop-less
+    loop-again
+    same-length
+    returns)

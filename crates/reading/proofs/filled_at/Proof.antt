@@ -1,0 +1,61 @@
+-- `reading::filled_at` meets its contract.
+-- Assumes nothing.
+use mathlib.Core.Path.{_≡_, sym, _∙_}
+use native.Mathlib.Omega.{arith}
+use lib.ListN.{length}
+use borrow.Author.Needs.{needs}
+use Rattle.format.specs.Geometry.{sector}
+use Rattle.format.specs.GeometryLaws.{cut-full, sector-full}
+use Rattle.disc.specs.Meaning.{geo, sectorsOf}
+use Rattle.reading.specs.SectorLaws.{filled-yes, filled-no}
+use Rattle.reading.proofs.filled_at.Statement.{statement}
+use Rattle.reading.proofs.filled_at.Tie as tie
+
+sub-min : tie.Need-sub-min
+sub-min c = search needs
+
+min-requires : tie.Need-min-requires
+min-requires c κs = search needs
+
+byte-of-requires : tie.Need-byte-of-requires
+byte-of-requires c κs = search needs
+
+cast-if1 : tie.Need-cast-if1
+cast-if1 c = search needs
+
+returns : tie.Need-returns
+returns c =
+    let a = c .before .before .before .before .args in
+    let full = cut-full (geo (a .g)) (a .image .now) (omega arith) in
+    let long : length (sector (sectorsOf (a .g) (a .image .now)) (a .n .0)) ≡ 256 = sector-full full (a .n .0) (omega arith) in
+    sym (filled-no _ (a .k) (a .left) (c .before .before .min .result) long (omega arith) (c .before .before .min .ensures) (λ e. c .if1 .taken (c .before .byte-of .ensures ∙ e)))
+
+add-zero-from : tie.Need-add-zero-from
+add-zero-from c = search needs
+
+add-zero-from-2 : tie.Need-add-zero-from-2
+add-zero-from-2 c = search needs
+
+zero-from-requires : tie.Need-zero-from-requires
+zero-from-requires c κs = search needs
+
+returns-2 : tie.Need-returns-2
+returns-2 c =
+    let a = c .before .before .before .before .before .args in
+    let full = cut-full (geo (a .g)) (a .image .now) (omega arith) in
+    let long : length (sector (sectorsOf (a .g) (a .image .now)) (a .n .0)) ≡ 256 = sector-full full (a .n .0) (omega arith) in
+    c .zero-from .ensures ∙ sym (filled-yes _ (a .k) (a .left) (c .before .before .before .min .result) long (omega arith) (c .before .before .before .min .ensures) (sym (c .before .before .byte-of .ensures) ∙ c .before .if1 .left))
+
+pub filled-at-spec : {M : Type 1} → statement M
+filled-at-spec =
+    tie.close
+    (tie.spec
+    sub-min
+    min-requires
+    byte-of-requires
+    cast-if1
+    returns
+    add-zero-from
+    add-zero-from-2
+    zero-from-requires
+    returns-2)

@@ -1,0 +1,96 @@
+-- `reading::later_filled` meets its contract. The loop's invariant: the sectors that are left are filled just where all of them are.
+-- Assumes nothing.
+use mathlib.Core.Path.{_≡_, refl, sym, ap, _∙_}
+use Prim.Native.Nat.{ℕ, _+_, _-_, _≤_}
+use native.Mathlib.Omega.{arith}
+use mathlib.Core.List.{List}
+use borrow.Author.Needs.{needs}
+use borrow.Author.Tests.{not-true, not-false}
+use Rattle.disc.specs.Meaning.{geo, sectorsOf}
+use Rattle.reading.specs.Plain.{laterFilled}
+use Rattle.reading.specs.Meaning.{bodiesOf, bodiesAfter, Followed}
+use Rattle.reading.specs.FileLaws.{file-followed, followed-leads, followed-step, filled-step, filled-stop, none-follow}
+use Rattle.reading.proofs.later_filled.Statement.{statement}
+use Rattle.reading.proofs.later_filled.Tie as tie
+
+abbrev Inv-loop : tie.InvT-loop
+Inv-loop image g count length left₀ n₀ j₀ left n j =
+    (j ≤ count)
+    × Followed g image (n .0) (count - j)
+    × (laterFilled left (bodiesAfter g image (n .0) (count - j)) ≡ laterFilled left₀ (bodiesAfter g image (n₀ .0) (count - j₀)))
+
+abbrev μ-loop : tie.MeasureT-loop
+μ-loop image g count length left₀ n₀ j₀ left n j = count - j
+
+saturating-sub-requires : tie.Need-saturating-sub-requires Inv-loop μ-loop
+saturating-sub-requires c κs = search needs
+
+loop-holds : tie.Need-loop-holds Inv-loop μ-loop
+loop-holds c = (c .before .before .pre .some-sector, file-followed (c .before .before .pre), refl)
+
+next-of-requires : tie.Need-next-of-requires Inv-loop μ-loop
+next-of-requires c κs =
+    let f = c .before .loop .inv .1 in
+    (c .before .before .before .before .pre .on-image, f .on-disc, followed-leads _ _ _ f (c .loop-test .taken))
+
+filled-at-requires : tie.Need-filled-at-requires Inv-loop μ-loop
+filled-at-requires c κs = (c .before .before .before .before .before .pre .on-image, c .next-of .ensures .1, omega arith)
+
+returns : tie.Need-returns Inv-loop μ-loop
+returns c =
+    let a = c .before .before .before .before .before .before .before .args in
+    let d = sectorsOf (a .g) (a .image .now) in
+    let no = sym (c .before .filled-at .ensures) ∙ not-true _ (c .if1 .taken) in
+    sym (filled-stop (c .before .before .before .before .loop .n .0) (a .count) (c .before .before .before .before .loop .j) (c .before .before .before .before .loop .inv .1) (c .before .before .before .loop-test .taken) (c .before .before .next-of .result .0) (c .before .before .next-of .ensures .0) (c .before .before .before .before .loop .left) no)
+    ∙ c .before .before .before .before .loop .inv .2
+    ∙ ap (λ (k : ℕ). laterFilled k (bodiesAfter (a .g) (a .image .now) (a .first .0) (a .count - 1))) (c .before .before .before .before .before .saturating-sub .ensures)
+
+saturating-sub-requires-2 : tie.Need-saturating-sub-requires-2 Inv-loop μ-loop
+saturating-sub-requires-2 c κs = search needs
+
+add-j : tie.Need-add-j Inv-loop μ-loop
+add-j c = search needs
+
+loop-less : tie.Need-loop-less Inv-loop μ-loop
+loop-less c = search needs
+
+loop-again : tie.Need-loop-again Inv-loop μ-loop
+loop-again c =
+    let a = c .before .before .before .before .before .before .before .before .args in
+    let d = sectorsOf (a .g) (a .image .now) in
+    let f = c .before .before .before .before .before .loop .inv .1 in
+    let m : ℕ = c .before .before .before .next-of .result .0 in
+    let yes = sym (c .before .before .filled-at .ensures) ∙ not-false _ (c .before .if1 .left) in (
+      omega arith,
+      followed-step (c .before .before .before .before .before .loop .n .0) (a .count) (c .before .before .before .before .before .loop .j) f (c .before .before .before .before .loop-test .taken) m (c .before .before .before .next-of .ensures .0) (c .before .before .before .next-of .ensures .1),
+      ap (λ (k : ℕ). laterFilled k (bodiesAfter (a .g) (a .image .now) m (a .count - (c .before .before .before .before .before .loop .j + 1)))) (c .saturating-sub2 .ensures)
+          ∙ filled-step (c .before .before .before .before .before .loop .n .0) (a .count) (c .before .before .before .before .before .loop .j) f (c .before .before .before .before .loop-test .taken) m (c .before .before .before .next-of .ensures .0) (c .before .before .before .before .before .loop .left) yes
+          ∙ c .before .before .before .before .before .loop .inv .2,
+    )
+
+returns-2 : tie.Need-returns-2 Inv-loop μ-loop
+unfolding laterFilled
+returns-2 c =
+    let a = c .before .before .before .before .args in
+    let d = sectorsOf (a .g) (a .image .now) in
+    let end = none-follow (geo (a .g)) d (c .before .loop .n .0) (a .count - c .before .loop .j) (omega arith) in
+    sym (ap (λ (ns : List ℕ). laterFilled (c .before .loop .left) (bodiesOf d ns)) end)
+    ∙ c .before .loop .inv .2
+    ∙ ap (λ (k : ℕ). laterFilled k (bodiesAfter (a .g) (a .image .now) (a .first .0) (a .count - 1))) (c .before .before .saturating-sub .ensures)
+
+pub later-filled-spec : {M : Type 1} → statement M
+later-filled-spec =
+    tie.close
+    (tie.spec
+    Inv-loop
+    μ-loop
+    saturating-sub-requires
+    loop-holds
+    next-of-requires
+    filled-at-requires
+    returns
+    saturating-sub-requires-2
+    add-j
+    loop-less
+    loop-again
+    returns-2)

@@ -1,0 +1,218 @@
+// Reading a load module back: whether a file's sectors hold one, its numbers, and its bytes.
+use disc::Geometry;
+use disc::SectorNo;
+ghost use mathlib.Core.Path.{_≡_};
+ghost use Prim.Native.Nat.{min, _+_, _-_, _≤_, _<_};
+ghost use mathlib.Core.Bool.{true, _&&_, cond};
+ghost use lib.ListN.{length, drop};
+ghost use lib.Dec.{eqb, leb};
+ghost use Rattle.format.specs.Lists.{all, front};
+ghost use Rattle.format.specs.Geometry.{go, sector};
+ghost use Rattle.format.specs.Layout.{linkOf};
+ghost use Rattle.format.specs.Modules.{plain};
+ghost use Rattle.disc.specs.Meaning.{geo, sectorsOf, Image};
+ghost use Rattle.reading.specs.Plain.{filled, headed, laterFilled};
+ghost use Rattle.reading.specs.Meaning.{notPlain, headerOf, bytesIn, numbersIn, leads, bodyOf, fileBodies, bodiesAfter, File, Copied};
+
+// What is read of a module but its bytes. Where the sectors hold none, `ok` is false and the numbers are 0.
+pub struct Header {
+    pub ok: bool,
+    pub page: u8,
+    pub start: u16,
+    pub end: u16,
+    pub transfer: u16,
+    pub length: u32,
+}
+
+const NOT_PLAIN: Header = Header {
+    ok: false,
+    page: 0,
+    start: 0,
+    end: 0,
+    transfer: 0,
+    length: 0,
+};
+
+fn min(a: usize, b: usize) -> usize
+    ensures { λ r. ⌜ r ≡ min a b ⌝ }
+{
+    if a < b {
+        return a;
+    }
+    b
+}
+
+fn saturating_sub(a: usize, b: usize) -> usize
+    ensures { λ r. ⌜ r ≡ a - b ⌝ }
+{
+    if a < b {
+        return 0;
+    }
+    a - b
+}
+
+// Whether the bytes of sector n from place k on are zero.
+fn zero_from(image: &[u8], g: Geometry, n: SectorNo, k: usize) -> bool
+    requires { ⌜ Image g (now image) × (n .0 < g .sectors) × (k ≤ 256) ⌝ }
+    ensures { λ r. ⌜ r ≡ all (eqb 0) (drop k (sector (sectorsOf g (now (image .entry))) (n .0))) ⌝ }
+{
+    let start = disc::start_of(g, n);
+    let mut i = k;
+    while i < 256 {
+        if image[start + i] != 0 {
+            return false;
+        }
+        i += 1;
+    }
+    true
+}
+
+// Whether sector n is filled from its length byte at place k on, where so many bytes are left.
+fn filled_at(image: &[u8], g: Geometry, n: SectorNo, k: usize, left: usize) -> bool
+    requires { ⌜ Image g (now image) × (n .0 < g .sectors) × (k < 256) ⌝ }
+    ensures { λ r. ⌜ r ≡ filled left (drop k (sector (sectorsOf g (now (image .entry))) (n .0))) ⌝ }
+{
+    let size = min(left, 255 - k);
+    if disc::byte_of(image, g, n, k) as usize != size {
+        return false;
+    }
+    zero_from(image, g, n, k + 1 + size)
+}
+
+// Whether a first sector can begin with $FF in place of `mark` and these numbers.
+fn numbers_ok(mark: u8, page: u8, start: u16, end: u16) -> bool
+    ensures { λ r. ⌜ r ≡ eqb mark 0xFF && leb page 7 && leb start end ⌝ }
+{
+    mark == 0xFF && page <= 7 && start <= end
+}
+
+// The numbers that sector n has if it is the first of a module; `ok` says whether they can be those of one.
+fn numbers_of(image: &[u8], g: Geometry, n: SectorNo) -> Header
+    requires { ⌜ Image g (now image) × (n .0 < g .sectors) ⌝ }
+    ensures { λ r. ⌜ r ≡ numbersIn (bodyOf g (now (image .entry)) (n .0)) ⌝ }
+{
+    let mark = disc::byte_of(image, g, n, 2);
+    let page = disc::byte_of(image, g, n, 3);
+    let start = disc::word_of(image, g, n, 4);
+    let end = disc::word_of(image, g, n, 6);
+    let transfer = disc::word_of(image, g, n, 8);
+    let length = saturating_sub(end as usize + 1, start as usize);
+    Header {
+        ok: numbers_ok(mark, page, start, end),
+        page,
+        start,
+        end,
+        transfer,
+        length: length as u32,
+    }
+}
+
+// The header in sector n, if it is the first of a module that takes `count` sectors.
+fn first_header(image: &[u8], g: Geometry, n: SectorNo, count: usize) -> Header
+    requires { ⌜ Image g (now image) × (n .0 < g .sectors) ⌝ }
+    ensures { λ r. do
+      let b = bodyOf g (now (image .entry)) (n .0)
+      ⌜ r ≡ cond (headed b count) (numbersIn b) notPlain ⌝ }
+{
+    let header = numbers_of(image, g, n);
+    let length = header.length as usize;
+    if !header.ok {
+        return NOT_PLAIN;
+    }
+    if modules::sectors_for(length) != count {
+        return NOT_PLAIN;
+    }
+    if !filled_at(image, g, n, 10, length) {
+        return NOT_PLAIN;
+    }
+    header
+}
+
+// The sector that the link of sector n leads to. The caller knows that it leads to one, so the link is not tested.
+fn next_of(image: &[u8], g: Geometry, n: SectorNo) -> SectorNo
+    requires { ⌜ Image g (now image) × (n .0 < g .sectors) × (leads (linkOf (geo g) (sector (sectorsOf g (now image)) (n .0))) ≡ true) ⌝ }
+    ensures { λ r. ⌜ (go (r .0) ≡ linkOf (geo g) (sector (sectorsOf g (now (image .entry))) (n .0))) × (r .0 < g .sectors) ⌝ }
+{
+    let track = disc::byte_of(image, g, n, 0);
+    let sector = disc::byte_of(image, g, n, 1);
+    disc::number_of(g, track as usize, sector as usize)
+}
+
+// Whether the sectors after the first of a file are filled with what is left of a module of so many bytes.
+fn later_filled(image: &[u8], g: Geometry, first: SectorNo, count: usize, length: usize) -> bool
+    requires { ⌜ File g (now image) (first .0) count ⌝ }
+    ensures { λ r. ⌜ r ≡ laterFilled (length - 245) (bodiesAfter g (now (image .entry)) (first .0) (count - 1)) ⌝ }
+{
+    let mut left = saturating_sub(length, 245);
+    let mut n = first;
+    let mut j: usize = 1;
+    while j < count {
+        n = next_of(image, g, n);
+        if !filled_at(image, g, n, 2, left) {
+            return false;
+        }
+        left = saturating_sub(left, 253);
+        j += 1;
+    }
+    true
+}
+
+// The header of the module in a file of `count` sectors from `first` on.
+pub fn plain_header(image: &[u8], g: Geometry, first: SectorNo, count: usize) -> Header
+    requires { ⌜ File g (now image) (first .0) count ⌝ }
+    ensures { λ r. ⌜ r ≡ headerOf (plain (fileBodies g (now (image .entry)) (first .0) count)) ⌝ }
+{
+    let header = first_header(image, g, first, count);
+    if !header.ok {
+        return NOT_PLAIN;
+    }
+    if !later_filled(image, g, first, count, header.length as usize) {
+        return NOT_PLAIN;
+    }
+    header
+}
+
+// Copies the bytes of sector n from place k on into the buffer from place `at` on, up to its place `end`. Gives the place after them.
+fn copy_part(
+    image: &[u8],
+    g: Geometry,
+    n: SectorNo,
+    k: usize,
+    buffer: &mut [u8],
+    at: usize,
+    end: usize,
+) -> usize
+    requires { ⌜ Image g (now image) × (n .0 < g .sectors) × (k ≤ 256) × (at ≤ end) × (end ≤ length (now buffer)) ⌝ }
+    ensures { λ r. ⌜ Copied (sector (sectorsOf g (now (image .entry))) (n .0)) k (now (buffer .entry)) (now (buffer .exit)) at end r ⌝ }
+{
+    let start = disc::start_of(g, n) + k;
+    let size = min(end - at, 256 - k);
+    let mut i: usize = 0;
+    while i < size {
+        buffer[at + i] = image[start + i];
+        i += 1;
+    }
+    at + size
+}
+
+// Copies the bytes of the module in a file of `count` sectors from `first` on to the front of the buffer; `size` is how many they are.
+pub fn copy_module(
+    image: &[u8],
+    g: Geometry,
+    first: SectorNo,
+    count: usize,
+    size: usize,
+    buffer: &mut [u8],
+)
+    requires { ⌜ File g (now image) (first .0) count × (size ≡ headerOf (plain (fileBodies g (now image) (first .0) count)) .length) × (size ≤ length (now buffer)) ⌝ }
+    ensures { λ _. ⌜ now (buffer .exit) ≡ front (bytesIn (plain (fileBodies g (now (image .entry)) (first .0) count))) (now (buffer .entry)) ⌝ }
+{
+    let mut at = copy_part(image, g, first, 11, buffer, 0, size);
+    let mut n = first;
+    let mut j: usize = 1;
+    while j < count {
+        n = next_of(image, g, n);
+        at = copy_part(image, g, n, 3, buffer, at, size);
+        j += 1;
+    }
+}

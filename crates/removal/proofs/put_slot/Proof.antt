@@ -1,0 +1,52 @@
+-- `removal::put_slot` meets its contract: two stores in the one sector.
+-- Assumes nothing.
+use borrow.Author.Needs.{needs}
+use native.Mathlib.Omega.{arith}
+use Prim.Native.Nat.{ℕ}
+use mathlib.Core.Path.{ap₂, _∙_}
+use mathlib.Core.List.{List, [], _∷_}
+use lib.Seq.{sets}
+use Rattle.format.specs.Geometry.{Disc, sector}
+use Rattle.format.specs.GeometryLaws.{length-cut, sector-again}
+use Rattle.format.specs.Layout.{inUsePlace, slotStart}
+use Rattle.format.specs.Effects.{withSlot}
+use Rattle.disc.specs.Meaning.{geo, sectorsOf, storedAt}
+use Rattle.removal.proofs.put_slot.Statement.{statement}
+use Rattle.removal.proofs.put_slot.Tie as tie
+
+slice-aggregate-put : tie.Need-slice-aggregate-put
+slice-aggregate-put c = search needs
+
+put-requires : tie.Need-put-requires
+put-requires c κs = search needs
+
+slot-start-requires : tie.Need-slot-start-requires
+slot-start-requires c κs = search needs
+
+put-requires-2 : tie.Need-put-requires-2
+put-requires-2 c κs = search needs
+
+same-length : tie.Need-same-length
+same-length c = search needs
+
+returns : tie.Need-returns
+unfolding withSlot
+returns c =
+    let a = c .before .before .before .before .before .before .before .before .before .before .before .before .args in
+    let d : Disc = sectorsOf (a .g) (a .image .now) in
+    let n : ℕ = a .n .0 in
+    let counted : List ℕ = sets (sector d n) inUsePlace (a .in-use ∷ []) in
+    c .before .before .put2 .ensures
+    ∙ ap₂ (λ (x : Disc) (k : ℕ). storedAt x n k (a .bytes .now)) (c .before .before .before .before .before .before .before .put .ensures) (c .before .before .before .slot-start .ensures)
+    ∙ sector-again d n (slotStart (a .i)) counted (a .bytes .now) (omega (arith, length-cut (geo (a .g)) (a .image .now), c .before .before .before .before .before .before .before .before .before .before .before .before .pre .0 .valid .total))
+
+pub put-slot-spec : {M : Type 1} → statement M
+put-slot-spec =
+    tie.close
+    (tie.spec
+    slice-aggregate-put
+    put-requires
+    slot-start-requires
+    put-requires-2
+    same-length
+    returns)

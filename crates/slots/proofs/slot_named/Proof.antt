@@ -1,0 +1,38 @@
+-- `slots::slot_named` meets its contract.
+-- Assumes nothing.
+use borrow.Author.Needs.{needs}
+use native.Mathlib.Omega.{arith}
+use mathlib.Core.Path.{_≡_, ap, ap₂, sym, _∙_}
+use Prim.Native.Nat.{ℕ}
+use mathlib.Core.List.{List}
+use lib.ListN.{length, take, drop}
+use Rattle.format.specs.Lists.{same}
+use Rattle.format.specs.Geometry.{sector}
+use Rattle.disc.specs.Meaning.{sectorsOf}
+use Rattle.slots.specs.Laws.{name-front}
+use Rattle.slots.proofs.slot_named.Statement.{statement}
+use Rattle.slots.proofs.slot_named.Tie as tie
+
+slot-start-requires : tie.Need-slot-start-requires
+slot-start-requires c κs = search needs
+
+slice-aggregate-same-at : tie.Need-slice-aggregate-same-at
+slice-aggregate-same-at c = search needs
+
+same-at-requires : tie.Need-same-at-requires
+same-at-requires c κs =
+    let start = c .before .before .before .before in
+    let nine : length (start .args .name .bytes) ≡ 9 = search needs in
+    (start .pre .0, start .pre .1, omega (arith, c .before .slot-start .ensures))
+
+returns : tie.Need-returns
+returns c =
+    let a = c .before .before .before .before .before .args in
+    let nine : length (a .name .bytes) ≡ 9 = search needs in
+    let part : ℕ → ℕ → List ℕ = λ L k. take L (drop k (sector (sectorsOf (a .g) (a .image .now)) (a .n .0))) in
+    c .same-at .ensures
+    ∙ ap (λ (s : List ℕ). same s (a .name .bytes)) (ap₂ part nine (c .before .before .slot-start .ensures) ∙ sym (name-front (sectorsOf (a .g) (a .image .now)) (a .n .0) (a .i)))
+
+pub slot-named-spec : {M : Type 1} → statement M
+slot-named-spec =
+    tie.close (tie.spec slot-start-requires slice-aggregate-same-at same-at-requires returns)

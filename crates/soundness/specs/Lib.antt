@@ -1,0 +1,14 @@
+pub mod Counts
+pub mod Places
+pub mod Stores
+pub mod NameCounts
+pub mod Slots
+pub mod SlotWrites
+pub mod Filed
+pub mod Laid
+pub mod Frames
+pub mod Found
+pub mod Pointers
+pub mod WriteFacts
+pub mod SystemWrites
+pub mod ChainWrites

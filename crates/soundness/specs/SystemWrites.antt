@@ -1,0 +1,58 @@
+-- The system sector with another free pointer and other counts: what is read from it.
+-- Assumes nothing.
+use mathlib.Core.Path.{_≡_, refl, ap, ap₂, _∙_}
+use Prim.Native.Nat.{ℕ, _+_, _*_, _<_}
+use native.Mathlib.Omega.{arith}
+use mathlib.Core.List.{List, _++_}
+use lib.ListN.{length}
+use lib.Seq.{sets, length-sets}
+use Rattle.format.specs.Lists.{byte, word, wordAt}
+use Rattle.format.specs.Geometry.{Geometry, Next, pointed, Disc}
+use Rattle.format.specs.Layout.{freePlace, directoryPlace, freeCountPlace, usedCountPlace, system, pairAt, pairBytes, directoryPointer}
+use Rattle.format.specs.Effects.{systemWrite}
+use Rattle.soundness.specs.Stores.{getD-sets-off, getD-sets-in}
+use Rattle.soundness.specs.Pointers.{Bounded, Pointable, pair-stored}
+
+module _ (G : Geometry) (u : Bounded G) (d : Disc) (full : length (system d) ≡ 256) (p : Next) (l : Pointable G p) (freed used : ℕ) where
+  mid : List ℕ
+  mid = sets (system d) freePlace (pairBytes G p)
+
+  mid-length : length mid ≡ 256
+  unfolding mid
+  mid-length = length-sets (system d) freePlace (pairBytes G p) ∙ full
+
+  sys′ : List ℕ
+  sys′ = systemWrite G d p freed used .bytes
+
+  sys-is : sys′ ≡ sets mid freeCountPlace (word freed ++ word used)
+  unfolding sys′ mid systemWrite
+  sys-is = refl
+
+  at-counts : (k : ℕ) → k < 4 → byte sys′ (freeCountPlace + k) ≡ byte (word freed ++ word used) k
+  at-counts k h = ap (λ (r : List ℕ). byte r (freeCountPlace + k)) sys-is ∙ getD-sets-in (word freed ++ word used) mid freeCountPlace k 0 h (omega (arith, mid-length))
+
+  before : (k : ℕ) → k < freeCountPlace → byte sys′ k ≡ byte mid k
+  before k h = ap (λ (r : List ℕ). byte r k) sys-is ∙ getD-sets-off (word freed ++ word used) mid freeCountPlace k 0 (λ a. absurd (omega arith))
+
+  pub system-free : pairAt G (systemWrite G d p freed used .bytes) freePlace ≡ p
+  unfolding sys′ mid
+  system-free = ap₂ (λ (a b : ℕ). pointed G a b) (before (freePlace + 1) (omega arith)) (before freePlace (omega arith)) ∙ pair-stored G u (system d) freePlace l (omega arith)
+
+  pub system-directory : pairAt G (systemWrite G d p freed used .bytes) directoryPlace ≡ directoryPointer G d
+  unfolding sys′ mid
+  system-directory =
+      ap₂ (λ (a b : ℕ). pointed G a b)
+      (before (directoryPlace + 1) (omega arith) ∙ getD-sets-off (pairBytes G p) (system d) freePlace (directoryPlace + 1) 0 (λ a. omega arith))
+      (before directoryPlace (omega arith) ∙ getD-sets-off (pairBytes G p) (system d) freePlace directoryPlace 0 (λ a. omega arith))
+
+  pub system-freed : freed < 65536 → wordAt (systemWrite G d p freed used .bytes) freeCountPlace ≡ freed
+  unfolding sys′
+  system-freed h = ap₂ (λ (a b : ℕ). a + 256 * b) (at-counts 0 (omega arith)) (at-counts 1 (omega arith)) ∙ omega arith
+
+  pub system-used : used < 65536 → wordAt (systemWrite G d p freed used .bytes) usedCountPlace ≡ used
+  unfolding sys′
+  system-used h = ap₂ (λ (a b : ℕ). a + 256 * b) (at-counts 2 (omega arith)) (at-counts 3 (omega arith)) ∙ omega arith
+
+  pub system-length : length (systemWrite G d p freed used .bytes) ≡ 256
+  unfolding sys′
+  system-length = ap length sys-is ∙ length-sets mid freeCountPlace (word freed ++ word used) ∙ mid-length

@@ -1,0 +1,76 @@
+-- `system::put_system` meets its contract: two stores in the one sector.
+-- Assumes nothing.
+use borrow.Author.Needs.{needs}
+use native.Mathlib.Omega.{arith}
+use Prim.Native.Nat.{ℕ}
+use mathlib.Core.Path.{ap, ap₂, _∙_}
+use mathlib.Core.List.{List, [], _∷_, _++_}
+use lib.ListN.{set}
+use lib.Seq.{sets}
+use Rattle.format.specs.Lists.{word}
+use Rattle.format.specs.Geometry.{Disc, sector}
+use Rattle.format.specs.GeometryLaws.{length-cut, sector-again}
+use Rattle.format.specs.Layout.{freePlace, freeCountPlace}
+use Rattle.format.specs.Effects.{systemWrite}
+use Rattle.disc.specs.Meaning.{geo, sectorsOf, storedAt}
+use Rattle.system.proofs.put_system.Statement.{statement}
+use Rattle.system.proofs.put_system.Tie as tie
+
+place-of-requires : tie.Need-place-of-requires
+place-of-requires c κs = search needs
+
+slice-aggregate-put : tie.Need-slice-aggregate-put
+slice-aggregate-put c = search needs
+
+put-requires : tie.Need-put-requires
+put-requires c κs = search needs
+
+cast-t16 : tie.Need-cast-t16
+cast-t16 c = search needs
+
+cast-t19 : tie.Need-cast-t19
+cast-t19 c = search needs
+
+cast-t21 : tie.Need-cast-t21
+cast-t21 c = search needs
+
+cast-t24 : tie.Need-cast-t24
+cast-t24 c = search needs
+
+slice-aggregate-put-2 : tie.Need-slice-aggregate-put-2
+slice-aggregate-put-2 c = search needs
+
+put-requires-2 : tie.Need-put-requires-2
+put-requires-2 c κs = search needs
+
+same-length : tie.Need-same-length
+same-length c = search needs
+
+returns : tie.Need-returns
+unfolding systemWrite
+returns c =
+    let start = c .before .before .before .before .before .before .before .before .before .before .before .before in
+    let a = start .args in
+    let d : Disc = sectorsOf (a .g) (a .image .now) in
+    let counts : List ℕ = word (a .free) ++ word (a .used) in
+    let place = c .before .before .before .before .before .before .before .before .before .before .place-of .ensures in
+    c .before .before .put2 .ensures
+    ∙ ap (λ (x : Disc). storedAt x 0 freeCountPlace counts) (c .before .before .before .before .before .before .before .put .ensures)
+    ∙ sector-again d 0 freeCountPlace _ counts (omega (arith, length-cut (geo (a .g)) (a .image .now), start .pre .0 .valid .total))
+    ∙ ap₂ (λ (s t : ℕ). set d 0 (sets (sets (sector d 0) freePlace (s ∷ t ∷ [])) freeCountPlace counts)) (place .1) (place .0)
+
+pub put-system-spec : {M : Type 1} → statement M
+put-system-spec =
+    tie.close
+    (tie.spec
+    place-of-requires
+    slice-aggregate-put
+    put-requires
+    cast-t16
+    cast-t19
+    cast-t21
+    cast-t24
+    slice-aggregate-put-2
+    put-requires-2
+    same-length
+    returns)

@@ -1,0 +1,15 @@
+-- What the code's struct says of the system sector.
+-- Assumes nothing.
+use mathlib.Core.Path.{_≡_}
+use Prim.Native.Nat.{ℕ}
+use mathlib.Core.List.{List}
+use Rattle.format.specs.Layout.{freePointer, freeCount, usedCount}
+use Rattle.disc.specs.Meaning.{geo, meaning, sectorsOf, Inside}
+use Rattle.disc.specs.declared.Geometry.{Geometry}
+use Rattle.system.specs.declared.System.{System}
+
+pub record SystemOf (g : Geometry) (image : List ℕ) (s : System) : Type 0 where
+  pub leads : meaning (s .pointer) ≡ freePointer (geo g) (sectorsOf g image)
+  pub inside : Inside g (s .pointer)
+  pub free-count : s .free ≡ freeCount (sectorsOf g image)
+  pub used-count : s .used ≡ usedCount (sectorsOf g image)
