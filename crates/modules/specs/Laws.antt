@@ -5,11 +5,13 @@ use Prim.Native.Nat.{ℕ, zero, suc, _+_, _*_, _-_, _≤_, _<_}
 use native.Mathlib.Omega.{arith}
 use mathlib.Core.List.{List, [], _∷_, _++_, append-assoc}
 use lib.ListN.{length, getD, set, take, drop, replicate, length-append, length-replicate}
-use lib.Seq.{sets, drop-drop}
+use lib.Seq.{sets, sets-eq, drop-drop}
 use Rattle.format.specs.Lists.{padded}
-use Rattle.format.specs.Geometry.{Disc, sector}
+use Rattle.format.specs.Geometry.{Geometry, stop, Disc, sector}
 use Rattle.format.specs.GeometryLaws.{sector-again}
+use Rattle.format.specs.Layout.{linkBytes}
 use Rattle.format.specs.Modules.{Module, bodies, firstBody, laterBody, laterBodies, sectorsFor}
+use Rattle.format.specs.Effects.{withSlot}
 use Rattle.disc.specs.Meaning.{storedAt}
 use Rattle.disc.specs.Laws.{sets-whole}
 
@@ -62,9 +64,22 @@ module _ (d : Disc) (n : ℕ) (on : n < length d) where
       ∙ append-assoc link (head ++ part) zeros
       ∙ ap (λ (j : ℕ). link ++ ((head ++ part) ++ replicate j 0)) rest)
 
+-- ---- a new directory sector, written by `put_body` with its count and its first entry
+
+pub directory-sector : (G : Geometry) (entry : List ℕ) → length entry ≡ 16
+    → linkBytes G stop ++ padded 254 0 ((1 ∷ []) ++ entry) ≡ withSlot (replicate 256 0) 0 1 entry
+unfolding withSlot
+directory-sector G entry h =
+    let zeros : List ℕ = replicate 256 0 in
+    let rest : 254 - length (1 ∷ entry) ≡ 237 = omega arith in
+    let end : 2 + length (1 ∷ entry) ≡ 19 = omega arith in
+    let fits : 2 + length (1 ∷ entry) ≤ length zeros = omega (arith, length-replicate {A = ℕ} 256 0) in
+    ap (λ (k : ℕ). 0 ∷ 0 ∷ (1 ∷ entry) ++ replicate k 0) rest
+    ∙ sym (sets-append zeros 2 (1 ∷ []) entry ∙ sets-eq (1 ∷ entry) zeros 2 fits ∙ ap (λ (k : ℕ). 0 ∷ 0 ∷ (1 ∷ entry) ++ drop k zeros) end)
+
 -- ---- the body of each sector
 
--- so many as there are, at most `most`, are all of them
+-- at most `most` elements, taken by how many they are
 pub take-part : (most : ℕ) (xs : List ℕ) → take (length (take most xs)) xs ≡ take most xs
 take-part zero xs = refl
 take-part (suc n) [] = refl

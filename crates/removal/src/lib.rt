@@ -5,7 +5,7 @@ use disc::Link;
 use disc::SectorNo;
 ghost use mathlib.Core.Path.{_≡_};
 ghost use Prim.Native.Nat.{_<_};
-ghost use lib.ListN.{length, set};
+ghost use lib.ListN.{set};
 ghost use Rattle.format.specs.Geometry.{sector, written};
 ghost use Rattle.format.specs.Layout.{slotsEach, slotAt};
 ghost use Rattle.format.specs.Effects.{withSlot, deleteWrites};
@@ -13,8 +13,8 @@ ghost use Rattle.soundness.specs.WriteFacts.{Removable};
 ghost use Rattle.disc.specs.Meaning.{geo, sectorsOf, Image};
 
 // Writes the bytes of slot i of directory sector n, and how many entries of the sector are in use.
-pub fn put_slot(image: &mut [u8], g: Geometry, n: SectorNo, i: usize, in_use: u8, bytes: &[u8])
-    requires { ⌜ Image g (now image) × (n .0 < g .sectors) × (i < slotsEach) × (length (now bytes) ≡ 16) ⌝ }
+pub fn put_slot(image: &mut [u8], g: Geometry, n: SectorNo, i: usize, in_use: u8, bytes: &[u8; 16])
+    requires { ⌜ Image g (now image) × (n .0 < g .sectors) × (i < slotsEach) ⌝ }
     ensures { λ _. ⌜ sectorsOf g (now (image .exit)) ≡ set (sectorsOf g (now (image .entry))) (n .0) (withSlot (sector (sectorsOf g (now (image .entry))) (n .0)) i in_use (now (bytes .entry))) ⌝ }
 {
     let count = [in_use];

@@ -10,7 +10,7 @@ ghost use mathlib.Core.Path.{_≡_};
 ghost use mathlib.Core.Bool.{false, cond};
 ghost use mathlib.Core.Option.{none, some};
 ghost use mathlib.Core.List.{[], _∷_, _++_};
-ghost use Prim.Native.Nat.{_+_, _≤_, _<_};
+ghost use Prim.Native.Nat.{_+_, _<_};
 ghost use lib.Dec.{leb, ltb};
 ghost use lib.ListN.{length, replicate, set};
 ghost use Rattle.format.specs.Lists.{word};
@@ -26,14 +26,14 @@ ghost use Rattle.saving.specs.Meaning.{Ready, Placed, FiledAs};
 // Whether the free chain has the sectors of a file of `count` sectors, and one more where no slot is free. `slot` is what
 // `directory::open_slot` found.
 pub fn has_room(image: &[u8], g: Geometry, slot: Found, count: usize) -> bool
-    requires { ⌜ Image g (now image) × Finds g (now image) slot (openSlot (geo g) (sectorsOf g (now image))) × (count ≤ 65536)
+    requires { ⌜ Image g (now image) × Finds g (now image) slot (openSlot (geo g) (sectorsOf g (now image)))
         × (freeCount (sectorsOf g (now image)) ≡ length (free (geo g) (sectorsOf g (now image)))) ⌝ }
     ensures { λ r. ⌜ r ≡ leb (count + growth (geo g) (sectorsOf g (now (image .entry)))) (length (free (geo g) (sectorsOf g (now (image .entry))))) ⌝ }
 {
     let free = system::system_of(image, g).free as usize;
     match slot {
         Found::At(_, _) => count <= free,
-        Found::Nothing => count + 1 <= free,
+        Found::Nothing => count < free,
     }
 }
 

@@ -39,8 +39,9 @@ loop-less c = search needs
 
 loop-again : tie.Need-loop-again Inv-loop μ-loop
 loop-again c =
-    let inv = c .before .loop .inv in
-    let step = zeros-step (c .before .loop .image) (c .before .before .start-of .result) (c .before .loop .i) (omega arith) in
+    let loop = c .before .loop in
+    let inv = loop .inv in
+    let step = zeros-step (loop .image) (c .before .before .start-of .result) (loop .i) (omega arith) in
     (omega arith, omega arith, simp length-set (inv .2), step ∙ inv .3)
 
 same-length : tie.Need-same-length Inv-loop μ-loop
@@ -48,10 +49,12 @@ same-length c = search needs
 
 returns : tie.Need-returns Inv-loop μ-loop
 returns c =
+    let loop = c .before .loop in
+    let start-of = c .before .before .start-of in
     let a = c .before .before .before .before .args in
-    let none-left : 256 - c .before .loop .i ≡ 0 = omega arith in
-    ap (sectorsOf (a .g)) (ap (λ (j : ℕ). sets (c .before .loop .image) (c .before .before .start-of .result + c .before .loop .i) (replicate j 0)) (sym none-left) ∙ c .before .loop .inv .3)
-    ∙ ap (λ (j : ℕ). sectorsOf (a .g) (sets (a .image .now) (j + a .k) (replicate (256 - a .k) 0))) (c .before .before .start-of .ensures)
+    let none-left : 256 - loop .i ≡ 0 = omega arith in
+    ap (sectorsOf (a .g)) (ap (λ (j : ℕ). sets (loop .image) (start-of .result + loop .i) (replicate j 0)) (sym none-left) ∙ loop .inv .3)
+    ∙ ap (λ (j : ℕ). sectorsOf (a .g) (sets (a .image .now) (j + a .k) (replicate (256 - a .k) 0))) (start-of .ensures)
     ∙ sets-cut (geo (a .g)) (a .image .now) (a .n .0) (a .k) (replicate (256 - a .k) 0) (omega arith) (omega (arith, length-replicate {A = ℕ} (256 - a .k) 0))
 
 pub clear-from-spec : {M : Type 1} → statement M

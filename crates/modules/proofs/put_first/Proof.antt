@@ -65,8 +65,9 @@ part-put-body-end c = search needs
 
 put-body-requires : tie.Need-put-body-requires
 put-body-requires c κs =
+    let part-len = c .before .before .before .part-len in
     let pre = c .before .before .before .before .before .before .before .before .pre in
-    (pre .0, pre .1, pre .2, omega (arith, length-take (c .before .before .before .part-len .result - 0) (c .before .before .before .before .before .before .before .before .args .bytes .now), c .before .before .before .part-len .ensures .few))
+    (pre .0, pre .1, pre .2, omega (arith, length-take (part-len .result - 0) (c .before .before .before .before .before .before .before .before .args .bytes .now), part-len .ensures .few))
 
 same-length : tie.Need-same-length
 same-length c = search needs
@@ -74,10 +75,11 @@ same-length c = search needs
 returns : tie.Need-returns
 unfolding firstBody
 returns c =
+    let part-len = c .before .before .before .before .before .before .part-len in
     let a = c .before .before .before .before .before .before .before .before .before .before .before .args in
     let m : Module = moduleOf (a .m) (a .bytes .now) in
-    let size : ℕ = c .before .before .before .before .before .before .part-len .result in
-    let long = c .before .before .before .before .before .before .part-len .ensures .long in
+    let size : ℕ = part-len .result in
+    let long = part-len .ensures .long in
     let back : size - 0 ≡ size = omega arith in
     let part : take (size - 0) (a .bytes .now) ≡ take 245 (a .bytes .now) = ap (λ (k : ℕ). take k (a .bytes .now)) (back ∙ long) ∙ take-part 245 (a .bytes .now) in
     c .before .before .put-body .ensures

@@ -44,10 +44,11 @@ same-length c = search needs
 returns : tie.Need-returns
 unfolding laterBody
 returns c =
+    let part-len = c .before .before .before .before .before .before .part-len in
     let a = c .before .before .before .before .before .before .before .before .before .args in
     let rest : List ℕ = drop (a .at) (a .bytes .now) in
-    let size : ℕ = c .before .before .before .before .before .before .part-len .result in
-    let long = c .before .before .before .before .before .before .part-len .ensures .long in
+    let size : ℕ = part-len .result in
+    let long = part-len .ensures .long in
     let back : a .at + size - a .at ≡ size = omega arith in
     let part : take (a .at + size - a .at) rest ≡ take 253 rest = ap (λ (k : ℕ). take k rest) (back ∙ long) ∙ take-part 253 rest in
     c .before .before .put-body .ensures

@@ -35,7 +35,9 @@ copy-part-requires c κs =
     (pre .0 .on-image, pre .0 .on-disc, omega arith, omega arith, pre .2)
 
 loop-holds : tie.Need-loop-holds Inv-loop μ-loop
-loop-holds c = (c .before .before .before .before .before .before .pre .0 .some-sector, file-followed (c .before .before .before .before .before .before .pre .0), c .before .before .copy-part .ensures .inside, refl, refl)
+loop-holds c =
+    let pre = c .before .before .before .before .before .before .pre in
+    (pre .0 .some-sector, file-followed (pre .0), c .before .before .copy-part .ensures .inside, refl, refl)
 
 next-of-requires : tie.Need-next-of-requires Inv-loop μ-loop
 next-of-requires c κs =
@@ -44,8 +46,10 @@ next-of-requires c κs =
 
 copy-part-requires-2 : tie.Need-copy-part-requires-2 Inv-loop μ-loop
 copy-part-requires-2 c κs =
+    let loop = c .before .before .before .loop in
+    let pre = c .before .before .before .before .before .before .before .before .before .before .pre in
     let long = copied-long (c .before .before .before .before .before .before .copy-part .ensures) in
-    (c .before .before .before .before .before .before .before .before .before .before .pre .0 .on-image, c .before .next-of .ensures .1, omega arith, c .before .before .before .loop .inv .2, omega (arith, long, c .before .before .before .loop .inv .3, c .before .before .before .before .before .before .before .before .before .before .pre .2))
+    (pre .0 .on-image, c .before .next-of .ensures .1, omega arith, loop .inv .2, omega (arith, long, loop .inv .3, pre .2))
 
 add-j : tie.Need-add-j Inv-loop μ-loop
 add-j c = search needs
@@ -55,19 +59,21 @@ loop-less c = search needs
 
 loop-again : tie.Need-loop-again Inv-loop μ-loop
 loop-again c =
+    let loop = c .before .before .before .before .before .before .loop in
+    let next-of = c .before .before .before .before .next-of in
     let a = c .before .before .before .before .before .before .before .before .before .before .before .before .before .args in
-    let inv = c .before .before .before .before .before .before .loop .inv in
-    let j : ℕ = c .before .before .before .before .before .before .loop .j in
-    let m : ℕ = c .before .before .before .before .next-of .result .0 in
+    let inv = loop .inv in
+    let j : ℕ = loop .j in
+    let m : ℕ = next-of .result .0 in
     let on = c .before .before .before .before .before .loop-test .taken in
-    let link = c .before .before .before .before .next-of .ensures .0 in
+    let link = next-of .ensures .0 in
     let copied = c .before .before .copy-part2 .ensures in (
       omega arith,
-      followed-step (c .before .before .before .before .before .before .loop .n .0) (a .count) j (inv .1) on m link (c .before .before .before .before .next-of .ensures .1),
+      followed-step (loop .n .0) (a .count) j (inv .1) on m link (next-of .ensures .1),
       copied .inside,
       copied-long copied ∙ inv .3,
       copied-on copied (inv .2) (laterBytes (bodiesAfter (a .g) (a .image .now) m (a .count - (j + 1))))
-          ∙ ap (λ (xs : List ℕ). sets (c .before .before .before .before .before .before .loop .buffer) (c .before .before .before .before .before .before .loop .at) (take (a .size - c .before .before .before .before .before .before .loop .at) xs)) (sym (bytes-step (c .before .before .before .before .before .before .loop .n .0) (a .count) j (inv .1) on m link))
+          ∙ ap (λ (xs : List ℕ). sets (loop .buffer) (loop .at) (take (a .size - loop .at) xs)) (sym (bytes-step (loop .n .0) (a .count) j (inv .1) on m link))
           ∙ inv .4,
     )
 
@@ -76,19 +82,21 @@ same-length c = search needs
 
 returns : tie.Need-returns Inv-loop μ-loop
 returns c =
+    let loop = c .before .loop in
+    let pre = c .before .before .before .before .before .before .before .before .pre in
     let a = c .before .before .before .before .before .before .before .before .args in
     let d = sectorsOf (a .g) (a .image .now) in
     let rest : List ℕ = laterBytes (bodiesAfter (a .g) (a .image .now) (a .first .0) (a .count - 1)) in
-    let left : ℕ = a .size - c .before .loop .at in
-    let end = ap (λ (ns : List ℕ). take left (laterBytes (bodiesOf d ns))) (none-follow (geo (a .g)) d (c .before .loop .n .0) (a .count - c .before .loop .j) (omega arith)) ∙ take-nil left in
+    let left : ℕ = a .size - loop .at in
+    let end = ap (λ (ns : List ℕ). take left (laterBytes (bodiesOf d ns))) (none-follow (geo (a .g)) d (loop .n .0) (a .count - loop .j) (omega arith)) ∙ take-nil left in
     let whole : a .size - 0 ≡ a .size = omega arith in
-    let bytes = file-bytes (c .before .before .before .before .before .before .before .before .pre .0) (a .size) (c .before .before .before .before .before .before .before .before .pre .1) in
-    sym (ap (sets (c .before .loop .buffer) (c .before .loop .at)) end)
-    ∙ c .before .loop .inv .4
+    let bytes = file-bytes (pre .0) (a .size) (pre .1) in
+    sym (ap (sets (loop .buffer) (loop .at)) end)
+    ∙ loop .inv .4
     ∙ copied-on (c .before .before .before .before .copy-part .ensures) (omega arith) rest
     ∙ ap (λ (k : ℕ). sets (a .buffer .now) 0 (take k (drop 11 (sector d (a .first .0)) ++ rest))) whole
     ∙ ap (sets (a .buffer .now) 0) bytes
-    ∙ stored-front (a .buffer .now) (bytesIn (plain (fileBodies (a .g) (a .image .now) (a .first .0) (a .count)))) (omega (arith, sym (ap length bytes), length-take (a .size) (drop 11 (sector d (a .first .0)) ++ rest), c .before .before .before .before .before .before .before .before .pre .2))
+    ∙ stored-front (a .buffer .now) (bytesIn (plain (fileBodies (a .g) (a .image .now) (a .first .0) (a .count)))) (omega (arith, sym (ap length bytes), length-take (a .size) (drop 11 (sector d (a .first .0)) ++ rest), pre .2))
 
 pub copy-module-spec : {M : Type 1} → statement M
 copy-module-spec =

@@ -68,10 +68,11 @@ loop-less c = search needs
 
 loop-again : tie.Need-loop-again Inv-loop μ-loop
 loop-again c =
+    let loop = c .before .before .loop in
     let a = c .before .before .before .before .before .before .before .args in
-    let inv = c .before .before .loop .inv in
+    let inv = loop .inv in
     let start : ℕ = c .before .before .before .before .start-of .result + a .k in
-    let step = copy-step (a .image .now) (c .before .before .loop .buffer) start (a .at) (c .before .before .loop .i) (start + c .before .before .before .min .result) (omega arith) (omega arith) in
+    let step = copy-step (a .image .now) (loop .buffer) start (a .at) (loop .i) (start + c .before .before .before .min .result) (omega arith) (omega arith) in
     (omega arith, simp length-set (inv .1), step ∙ inv .2)
 
 add-result : tie.Need-add-result Inv-loop μ-loop
@@ -82,6 +83,8 @@ same-length c = search needs
 
 returns : tie.Need-returns Inv-loop μ-loop
 returns c =
+    let loop = c .before .loop in
+    let start-of = c .before .before .before .start-of in
     let a = c .before .before .before .before .before .before .args in
     let s = sector (sectorsOf (a .g) (a .image .now)) (a .n .0) in
     let size : ℕ = c .before .before .min .result in
@@ -91,12 +94,12 @@ returns c =
     let part : take (a .end - a .at) (drop (a .k) s) ≡ slice (start + a .k) (start + a .k + size) (a .image .now) =
     ap (take (a .end - a .at)) (sector-from (c .before .before .before .before .before .before .pre .0) (a .n .0) (a .k) (omega arith))
     ∙ slice-front (a .image .now) (start + a .k) (start + 256) (a .end - a .at) size (omega arith) (omega arith) in
-    let done : slice (c .before .before .before .start-of .result + a .k + c .before .loop .i) (c .before .before .before .start-of .result + a .k + size) (a .image .now) ≡ [] =
-    slice-end (a .image .now) (c .before .before .before .start-of .result + a .k) (c .before .loop .i) (c .before .before .before .start-of .result + a .k + size) (omega arith) in
+    let done : slice (start-of .result + a .k + loop .i) (start-of .result + a .k + size) (a .image .now) ≡ [] =
+    slice-end (a .image .now) (start-of .result + a .k) (loop .i) (start-of .result + a .k + size) (omega arith) in
     record {
-      stored = ap (sets (c .before .loop .buffer) (a .at + c .before .loop .i)) (sym done)
-          ∙ c .before .loop .inv .2
-          ∙ ap (λ (j : ℕ). sets (a .buffer .now) (a .at) (slice (j + a .k) (j + a .k + size) (a .image .now))) (c .before .before .before .start-of .ensures)
+      stored = ap (sets (loop .buffer) (a .at + loop .i)) (sym done)
+          ∙ loop .inv .2
+          ∙ ap (λ (j : ℕ). sets (a .buffer .now) (a .at) (slice (j + a .k) (j + a .k + size) (a .image .now))) (start-of .ensures)
           ∙ ap (sets (a .buffer .now) (a .at)) (sym part);
       next = omega (arith, length-take (a .end - a .at) (drop (a .k) s), length-drop (a .k) s, long);
       inside = omega arith;

@@ -20,9 +20,10 @@ cast-length c = search needs
 
 returns : tie.Need-returns
 returns c =
+    let numbers-of = c .before .before .before .numbers-of in
     let a = c .before .before .before .before .before .args in
     let s = sector (sectorsOf (a .g) (a .image .now)) (a .n .0) in
-    sym (numbers-refused s (a .count) (c .before .before .before .numbers-of .result) (c .before .before .before .numbers-of .ensures) (not-true _ (c .if1 .taken)))
+    sym (numbers-refused s (a .count) (numbers-of .result) (numbers-of .ensures) (not-true _ (c .if1 .taken)))
 
 sectors-for-requires : tie.Need-sectors-for-requires
 sectors-for-requires c κs =
@@ -32,9 +33,10 @@ sectors-for-requires c κs =
 
 returns-2 : tie.Need-returns-2
 returns-2 c =
+    let numbers-of = c .before .before .before .before .before .numbers-of in
     let a = c .before .before .before .before .before .before .before .args in
     let s = sector (sectorsOf (a .g) (a .image .now)) (a .n .0) in
-    sym (count-refused s (a .count) (c .before .before .before .before .before .numbers-of .result) (c .before .before .before .before .before .numbers-of .ensures) (not-false _ (c .before .before .if1 .left))
+    sym (count-refused s (a .count) (numbers-of .result) (numbers-of .ensures) (not-false _ (c .before .before .if1 .left))
     (λ q. c .if2 .taken (c .before .sectors-for .ensures ∙ q)))
 
 filled-at-requires : tie.Need-filled-at-requires
@@ -42,16 +44,18 @@ filled-at-requires c κs = search needs
 
 returns-3 : tie.Need-returns-3
 returns-3 c =
+    let numbers-of = c .before .before .before .before .before .before .before .numbers-of in
     let a = c .before .before .before .before .before .before .before .before .before .args in
     let s = sector (sectorsOf (a .g) (a .image .now)) (a .n .0) in
-    sym (by-first-part s (a .count) (c .before .before .before .before .before .before .before .numbers-of .result) (c .before .before .before .before .before .before .before .numbers-of .ensures) (not-false _ (c .before .before .before .before .if1 .left)) (sym (c .before .before .before .sectors-for .ensures) ∙ c .before .before .if2 .left)
+    sym (by-first-part s (a .count) (numbers-of .result) (numbers-of .ensures) (not-false _ (c .before .before .before .before .if1 .left)) (sym (c .before .before .before .sectors-for .ensures) ∙ c .before .before .if2 .left)
     ∙ simp (sym (c .before .filled-at .ensures) ∙ not-true _ (c .if3 .taken)))
 
 returns-4 : tie.Need-returns-4
 returns-4 c =
+    let numbers-of = c .before .before .before .before .before .before .before .numbers-of in
     let a = c .before .before .before .before .before .before .before .before .before .args in
     let s = sector (sectorsOf (a .g) (a .image .now)) (a .n .0) in
-    sym (by-first-part s (a .count) (c .before .before .before .before .before .before .before .numbers-of .result) (c .before .before .before .before .before .before .before .numbers-of .ensures) (not-false _ (c .before .before .before .before .if1 .left)) (sym (c .before .before .before .sectors-for .ensures) ∙ c .before .before .if2 .left)
+    sym (by-first-part s (a .count) (numbers-of .result) (numbers-of .ensures) (not-false _ (c .before .before .before .before .if1 .left)) (sym (c .before .before .before .sectors-for .ensures) ∙ c .before .before .if2 .left)
     ∙ simp (sym (c .before .filled-at .ensures) ∙ not-false _ (c .if3 .left)))
 
 pub first-header-spec : {M : Type 1} → statement M

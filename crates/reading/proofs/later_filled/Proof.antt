@@ -26,7 +26,9 @@ saturating-sub-requires : tie.Need-saturating-sub-requires Inv-loop μ-loop
 saturating-sub-requires c κs = search needs
 
 loop-holds : tie.Need-loop-holds Inv-loop μ-loop
-loop-holds c = (c .before .before .pre .some-sector, file-followed (c .before .before .pre), refl)
+loop-holds c =
+    let pre = c .before .before .pre in
+    (pre .some-sector, file-followed pre, refl)
 
 next-of-requires : tie.Need-next-of-requires Inv-loop μ-loop
 next-of-requires c κs =
@@ -38,11 +40,13 @@ filled-at-requires c κs = (c .before .before .before .before .before .pre .on-i
 
 returns : tie.Need-returns Inv-loop μ-loop
 returns c =
+    let loop = c .before .before .before .before .loop in
+    let next-of = c .before .before .next-of in
     let a = c .before .before .before .before .before .before .before .args in
     let d = sectorsOf (a .g) (a .image .now) in
     let no = sym (c .before .filled-at .ensures) ∙ not-true _ (c .if1 .taken) in
-    sym (filled-stop (c .before .before .before .before .loop .n .0) (a .count) (c .before .before .before .before .loop .j) (c .before .before .before .before .loop .inv .1) (c .before .before .before .loop-test .taken) (c .before .before .next-of .result .0) (c .before .before .next-of .ensures .0) (c .before .before .before .before .loop .left) no)
-    ∙ c .before .before .before .before .loop .inv .2
+    sym (filled-stop (loop .n .0) (a .count) (loop .j) (loop .inv .1) (c .before .before .before .loop-test .taken) (next-of .result .0) (next-of .ensures .0) (loop .left) no)
+    ∙ loop .inv .2
     ∙ ap (λ (k : ℕ). laterFilled k (bodiesAfter (a .g) (a .image .now) (a .first .0) (a .count - 1))) (c .before .before .before .before .before .saturating-sub .ensures)
 
 saturating-sub-requires-2 : tie.Need-saturating-sub-requires-2 Inv-loop μ-loop
@@ -56,26 +60,29 @@ loop-less c = search needs
 
 loop-again : tie.Need-loop-again Inv-loop μ-loop
 loop-again c =
+    let loop = c .before .before .before .before .before .loop in
+    let next-of = c .before .before .before .next-of in
     let a = c .before .before .before .before .before .before .before .before .args in
     let d = sectorsOf (a .g) (a .image .now) in
-    let f = c .before .before .before .before .before .loop .inv .1 in
-    let m : ℕ = c .before .before .before .next-of .result .0 in
+    let f = loop .inv .1 in
+    let m : ℕ = next-of .result .0 in
     let yes = sym (c .before .before .filled-at .ensures) ∙ not-false _ (c .before .if1 .left) in (
       omega arith,
-      followed-step (c .before .before .before .before .before .loop .n .0) (a .count) (c .before .before .before .before .before .loop .j) f (c .before .before .before .before .loop-test .taken) m (c .before .before .before .next-of .ensures .0) (c .before .before .before .next-of .ensures .1),
-      ap (λ (k : ℕ). laterFilled k (bodiesAfter (a .g) (a .image .now) m (a .count - (c .before .before .before .before .before .loop .j + 1)))) (c .saturating-sub2 .ensures)
-          ∙ filled-step (c .before .before .before .before .before .loop .n .0) (a .count) (c .before .before .before .before .before .loop .j) f (c .before .before .before .before .loop-test .taken) m (c .before .before .before .next-of .ensures .0) (c .before .before .before .before .before .loop .left) yes
-          ∙ c .before .before .before .before .before .loop .inv .2,
+      followed-step (loop .n .0) (a .count) (loop .j) f (c .before .before .before .before .loop-test .taken) m (next-of .ensures .0) (next-of .ensures .1),
+      ap (λ (k : ℕ). laterFilled k (bodiesAfter (a .g) (a .image .now) m (a .count - (loop .j + 1)))) (c .saturating-sub2 .ensures)
+          ∙ filled-step (loop .n .0) (a .count) (loop .j) f (c .before .before .before .before .loop-test .taken) m (next-of .ensures .0) (loop .left) yes
+          ∙ loop .inv .2,
     )
 
 returns-2 : tie.Need-returns-2 Inv-loop μ-loop
 unfolding laterFilled
 returns-2 c =
+    let loop = c .before .loop in
     let a = c .before .before .before .before .args in
     let d = sectorsOf (a .g) (a .image .now) in
-    let end = none-follow (geo (a .g)) d (c .before .loop .n .0) (a .count - c .before .loop .j) (omega arith) in
-    sym (ap (λ (ns : List ℕ). laterFilled (c .before .loop .left) (bodiesOf d ns)) end)
-    ∙ c .before .loop .inv .2
+    let end = none-follow (geo (a .g)) d (loop .n .0) (a .count - loop .j) (omega arith) in
+    sym (ap (λ (ns : List ℕ). laterFilled (loop .left) (bodiesOf d ns)) end)
+    ∙ loop .inv .2
     ∙ ap (λ (k : ℕ). laterFilled k (bodiesAfter (a .g) (a .image .now) (a .first .0) (a .count - 1))) (c .before .before .saturating-sub .ensures)
 
 pub later-filled-spec : {M : Type 1} → statement M

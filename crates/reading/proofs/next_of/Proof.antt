@@ -26,19 +26,21 @@ cast-number-of-2 c = search needs
 
 number-of-requires : tie.Need-number-of-requires
 number-of-requires c κs =
+    let pre = c .before .before .before .pre in
     let link = ap₂ (pointed (geo (c .before .before .before .args .g))) (c .before .byte-of .ensures) (c .byte-of2 .ensures) in
-    (c .before .before .before .pre .0 .valid, leads-on-disc _ _ _ (ap leads link ∙ c .before .before .before .pre .2))
+    (pre .0 .valid, leads-on-disc _ _ _ (ap leads link ∙ pre .2))
 
 returns : tie.Need-returns
 returns c =
+    let pre = c .before .before .before .before .pre in
     let g = c .before .before .before .before .args .g in
     let track : ℕ = c .before .before .byte-of .result in
     let sector : ℕ = c .before .byte-of2 .result in
     let link = ap₂ (pointed (geo g)) (c .before .before .byte-of .ensures) (c .before .byte-of2 .ensures) in
-    let on : leads (pointed (geo g) track sector) ≡ true = ap leads link ∙ c .before .before .before .before .pre .2 in
+    let on : leads (pointed (geo g) track sector) ≡ true = ap leads link ∙ pre .2 in
     let number = c .number-of .ensures in (
       ap go number ∙ leads-number (geo g) track sector on ∙ link,
-      rw number (number-on (c .before .before .before .before .pre .0 .valid) track sector (leads-on-disc (geo g) track sector on)),
+      rw number (number-on (pre .0 .valid) track sector (leads-on-disc (geo g) track sector on)),
     )
 
 pub next-of-spec : {M : Type 1} → statement M

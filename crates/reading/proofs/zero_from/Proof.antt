@@ -32,11 +32,13 @@ shared-slice-read-if1 c = search needs
 
 returns : tie.Need-returns Inv-loop μ-loop
 returns c =
+    let loop = c .before .before .before .loop in
+    let start-of = c .before .before .before .before .start-of in
     let a = c .before .before .before .before .before .before .args in
     sym (ap (all (eqb 0)) (sector-from (c .before .before .before .before .before .before .pre .0) (a .n .0) (a .k) (omega arith))
-    ∙ ap (λ (j : ℕ). all (eqb 0) (slice (j + a .k) (j + 256) (a .image .now))) (sym (c .before .before .before .before .start-of .ensures))
-    ∙ sym (c .before .before .before .loop .inv .1)
-    ∙ zeros-stop (a .image .now) (c .before .before .before .before .start-of .result) (c .before .before .before .loop .i) (c .before .before .before .before .start-of .result + 256) (omega arith) (omega arith) (c .if1 .taken))
+    ∙ ap (λ (j : ℕ). all (eqb 0) (slice (j + a .k) (j + 256) (a .image .now))) (sym (start-of .ensures))
+    ∙ sym (loop .inv .1)
+    ∙ zeros-stop (a .image .now) (start-of .result) (loop .i) (start-of .result + 256) (omega arith) (omega arith) (c .if1 .taken))
 
 add-i : tie.Need-add-i Inv-loop μ-loop
 add-i c = search needs
@@ -46,16 +48,20 @@ loop-less c = search needs
 
 loop-again : tie.Need-loop-again Inv-loop μ-loop
 loop-again c =
-    let step = zeros-step (c .before .before .before .before .before .before .args .image .now) (c .before .before .before .before .start-of .result) (c .before .before .before .loop .i) (c .before .before .before .before .start-of .result + 256) (omega arith) (omega arith) (c .if1 .left) in
-    (omega arith, step ∙ c .before .before .before .loop .inv .1)
+    let loop = c .before .before .before .loop in
+    let start-of = c .before .before .before .before .start-of in
+    let step = zeros-step (c .before .before .before .before .before .before .args .image .now) (start-of .result) (loop .i) (start-of .result + 256) (omega arith) (omega arith) (c .if1 .left) in
+    (omega arith, step ∙ loop .inv .1)
 
 returns-2 : tie.Need-returns-2 Inv-loop μ-loop
 returns-2 c =
+    let loop = c .before .loop in
+    let start-of = c .before .before .start-of in
     let a = c .before .before .before .before .args in
     sym (ap (all (eqb 0)) (sector-from (c .before .before .before .before .pre .0) (a .n .0) (a .k) (omega arith))
-    ∙ ap (λ (j : ℕ). all (eqb 0) (slice (j + a .k) (j + 256) (a .image .now))) (sym (c .before .before .start-of .ensures))
-    ∙ sym (c .before .loop .inv .1)
-    ∙ ap (all (eqb 0)) (slice-end (a .image .now) (c .before .before .start-of .result) (c .before .loop .i) (c .before .before .start-of .result + 256) (omega arith)))
+    ∙ ap (λ (j : ℕ). all (eqb 0) (slice (j + a .k) (j + 256) (a .image .now))) (sym (start-of .ensures))
+    ∙ sym (loop .inv .1)
+    ∙ ap (all (eqb 0)) (slice-end (a .image .now) (start-of .result) (loop .i) (start-of .result + 256) (omega arith)))
 
 pub zero-from-spec : {M : Type 1} → statement M
 zero-from-spec =

@@ -37,7 +37,7 @@ returns c =
     let n : ℕ = a .n .0 in
     let counted : List ℕ = sets (sector d n) inUsePlace (a .in-use ∷ []) in
     c .before .before .put2 .ensures
-    ∙ ap₂ (λ (x : Disc) (k : ℕ). storedAt x n k (a .bytes .now)) (c .before .before .before .before .before .before .before .put .ensures) (c .before .before .before .slot-start .ensures)
+    ∙ ap₂ (λ (x : Disc) (k : ℕ). storedAt x n k (a .bytes .now)) (c .before .before .before .before .before .before .before .before .put .ensures) (c .before .before .before .before .slot-start .ensures)
     ∙ sector-again d n (slotStart (a .i)) counted (a .bytes .now) (omega (arith, length-cut (geo (a .g)) (a .image .now), c .before .before .before .before .before .before .before .before .before .before .before .before .pre .0 .valid .total))
 
 pub put-slot-spec : {M : Type 1} → statement M

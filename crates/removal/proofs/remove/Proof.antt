@@ -54,9 +54,6 @@ sub-put-slot : tie.Need-sub-put-slot
 unfolding slotAt
 sub-put-slot c = omega (arith, c .before .byte-of .ensures, c .before .before .before .before .before .before .before .before .before .before .before .before .before .before .pre .3 .in-use)
 
-slice-aggregate-put-slot : tie.Need-slice-aggregate-put-slot
-slice-aggregate-put-slot c = search needs
-
 put-slot-requires : tie.Need-put-slot-requires
 put-slot-requires c κs = search needs
 
@@ -113,7 +110,6 @@ remove-spec =
     sub-used
     byte-of-requires
     sub-put-slot
-    slice-aggregate-put-slot
     put-slot-requires
     put-link-requires
     put-system-requires

@@ -2,7 +2,7 @@
 -- Assumes nothing.
 use borrow.Author.Needs.{needs}
 use native.Mathlib.Omega.{arith}
-use Prim.Native.Nat.{ℕ, _+_}
+use Prim.Native.Nat.{suc, _+_}
 use mathlib.Core.Path.{_≡_, sym, ap, ap₂, _∙_}
 use lib.Dec.{leb}
 use Rattle.format.specs.Geometry.{Geometry, Disc}
@@ -25,9 +25,6 @@ enum-told c = search needs
 enum-told-2 : tie.Need-enum-told-2
 enum-told-2 c = search needs
 
-add-result : tie.Need-add-result
-add-result c = search needs
-
 returns : tie.Need-returns
 returns c =
     let start = c .before .before .before .before .before in
@@ -36,7 +33,7 @@ returns c =
     let d : Disc = sectorsOf (a .g) (a .image .now) in
     let first-free = sym (start .pre .1 .slot) ∙ ap (foundOf d) (c .enum-told .given .1) in
     let all : a .count ≡ a .count + growth G d = omega (arith, growth-some G d _ first-free) in
-    ap₂ leb all (c .before .before .before .system-of .ensures .free-count ∙ start .pre .3)
+    ap₂ leb all (c .before .before .before .system-of .ensures .free-count ∙ start .pre .2)
 
 returns-2 : tie.Need-returns-2
 returns-2 c =
@@ -45,9 +42,10 @@ returns-2 c =
     let G : Geometry = geo (a .g) in
     let d : Disc = sectorsOf (a .g) (a .image .now) in
     let full = sym (start .pre .1 .slot) ∙ ap (foundOf d) (c .enum-told2 .given .1) in
-    ap₂ leb (ap (λ (n : ℕ). a .count + n) (sym (growth-none G d full))) (c .before .before .before .system-of .ensures .free-count ∙ start .pre .3)
+    let all : suc (a .count) ≡ a .count + growth G d = omega (arith, growth-none G d full) in
+    ap₂ leb all (c .before .before .before .system-of .ensures .free-count ∙ start .pre .2)
 
 pub has-room-spec : {M : Type 1} → statement M
 has-room-spec =
     tie.close
-    (tie.spec system-of-requires cast-free enum-told enum-told-2 add-result returns returns-2)
+    (tie.spec system-of-requires cast-free enum-told enum-told-2 returns returns-2)

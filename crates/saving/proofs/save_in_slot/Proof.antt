@@ -39,13 +39,10 @@ add-put-slot : tie.Need-add-put-slot
 unfolding slotAt
 add-put-slot c = let start = c .before .before .before .before .before .before .before .before .before .before .before .before .before .before .before in omega (arith, c .before .before .before .before .before .before .before .byte-of .ensures, start .pre .0 .savable .open-count _ (start .pre .1))
 
-slice-aggregate-put-slot : tie.Need-slice-aggregate-put-slot
-slice-aggregate-put-slot c = search needs
-
 put-slot-requires : tie.Need-put-slot-requires
 put-slot-requires c κs =
     let start = c .before .before .before .before .before .before .before .before .before .before .before .before .before .before .before .before in
-    (record { valid = start .pre .0 .image-of .valid; long = c .before .before .before .before .before .put-file .kept .0 ∙ start .pre .0 .image-of .long }, start .pre .2, start .pre .3, search needs)
+    (record { valid = start .pre .0 .image-of .valid; long = c .before .before .before .before .before .put-file .kept .0 ∙ start .pre .0 .image-of .long }, start .pre .2, start .pre .3)
 
 sub-put-system : tie.Need-sub-put-system
 sub-put-system c =
@@ -103,7 +100,6 @@ save-in-slot-spec =
     sectors-for-requires
     put-file-requires
     add-put-slot
-    slice-aggregate-put-slot
     put-slot-requires
     sub-put-system
     add-put-system
