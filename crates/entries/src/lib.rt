@@ -20,13 +20,16 @@ ghost use Rattle.entries.specs.Differ.{named, apart};
 // Slots of a directory sector.
 pub const SLOTS: usize = 15;
 
-// Places in the system sector, in a directory sector and in an entry.
+// Place of the directory pointer in the system sector.
 const DIRECTORY_POINTER: usize = 0x12;
 
+// Place of the number of entries in use in a directory sector.
 const IN_USE: usize = 2;
 
+// Place of the length in an entry.
 const LENGTH: usize = 9;
 
+// Place of the attribute in an entry.
 const ATTRIBUTE: usize = 15;
 
 // ---- rule 3: the count of each directory sector, and each entry

@@ -21,17 +21,22 @@ ghost use Rattle.fsck.specs.Free.{FreeGood};
 ghost use Rattle.fsck.specs.Rules.{marksOf, RulesTo4, DirectoryChecked};
 ghost use Rattle.fsck.specs.Answer.{Answers};
 
-// Places in the system sector, and in an entry.
+// Place of the free pointer in the system sector.
 const FREE_POINTER: usize = 0x10;
 
+// Place of the free count in the system sector.
 const FREE_COUNT: usize = 0x14;
 
+// Place of the used count in the system sector.
 const USED_COUNT: usize = 0x16;
 
+// Place of the length in an entry.
 const LENGTH: usize = 9;
 
+// Place of the pair of the first sector in an entry.
 const FIRST: usize = 11;
 
+// Place of the pair of the last sector in an entry.
 const LAST: usize = 13;
 
 // How a walk along a chain comes out: at an end link, with the number of sectors met and the last of them; or not.

@@ -60,7 +60,7 @@ module _ (G : Geometry) (d : Disc) where
 
 -- ---- the sectors to be taken
 
--- p leads from each of ns to the next, and meets none twice
+-- a walk from p meets ns in order, and none of them twice
 pub record Linked (G : Geometry) (d : Disc) (p : Next) (ns : List ℕ) : Type 0 where
   pub leads : (j : ℕ) → j < length ns → after G d p (take j ns) ≡ go (getD ns j 0)
   pub once : (n : ℕ) → times n ns ≤ 1
@@ -93,8 +93,8 @@ module _ (G : Geometry) (d : Disc) (k : ℕ) (enough : k ≤ length (free G d)) 
 
 -- ---- the walk that writes
 
--- j of the sectors ns are written with the bodies bs, and d is the disc: where the walk leads, the last sector that was written, those ahead as they
--- were, and what is still to be written
+-- The first j of the sectors ns are written with the bodies bs, and d is the disc: where the walk leads, the last sector that was written, the
+-- sectors ahead as they were, and that writing the rest writes all.
 pub record Taking (G : Geometry) (d₀ : Disc) (p : Next) (ns : List ℕ) (bs : List (List ℕ)) (j : ℕ) (at : Next) (last : ℕ) (d : Disc) : Type 0 where
   pub leads : at ≡ after G d₀ p (take j ns)
   pub last-is : last ≡ lastOr 0 (take j ns)

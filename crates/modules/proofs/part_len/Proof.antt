@@ -24,8 +24,7 @@ returns-2 : tie.Need-returns-2
 returns-2 c =
     let a = c .before .args in
     let rest : List ℕ = drop (a .at) (a .bytes .now) in
-    let left : length rest ≡ length (a .bytes .now) - a .at = length-drop (a .at) (a .bytes .now) in
-    record { long = sym (length-take-le (a .most) rest (omega arith)); few = omega arith; inside = omega arith }
+    record { long = sym (length-take-le (a .most) rest (omega (arith, length-drop (a .at) (a .bytes .now)))); few = omega arith; inside = omega arith }
 
 pub part-len-spec : {M : Type 1} → statement M
 part-len-spec = tie.close (tie.spec sub-left returns returns-2)

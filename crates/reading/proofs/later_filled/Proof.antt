@@ -43,7 +43,6 @@ returns c =
     let loop = c .before .before .before .before .loop in
     let next-of = c .before .before .next-of in
     let a = c .before .before .before .before .before .before .before .args in
-    let d = sectorsOf (a .g) (a .image .now) in
     let no = sym (c .before .filled-at .ensures) ∙ not-true _ (c .if1 .taken) in
     sym (filled-stop (loop .n .0) (a .count) (loop .j) (loop .inv .1) (c .before .before .before .loop-test .taken) (next-of .result .0) (next-of .ensures .0) (loop .left) no)
     ∙ loop .inv .2
@@ -63,7 +62,6 @@ loop-again c =
     let loop = c .before .before .before .before .before .loop in
     let next-of = c .before .before .before .next-of in
     let a = c .before .before .before .before .before .before .before .before .args in
-    let d = sectorsOf (a .g) (a .image .now) in
     let f = loop .inv .1 in
     let m : ℕ = next-of .result .0 in
     let yes = sym (c .before .before .filled-at .ensures) ∙ not-false _ (c .before .if1 .left) in (

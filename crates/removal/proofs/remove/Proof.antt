@@ -60,15 +60,20 @@ put-slot-requires c κs = search needs
 put-link-requires : tie.Need-put-link-requires
 put-link-requires c κs =
     let start = c .before .before .before .before .before .before .before .before .before .before .before .before .before .before .before .before .before .before .before in
-    let image : Image _ _ = record { valid = start .pre .0 .valid; long = c .before .before .before .put-slot .kept .0 ∙ start .pre .0 .long } in
-    let last = found-inside (start .args .g) (c .before .before .before .before .before .before .before .before .before .before .before .before .end .given .1) (c .before .before .before .before .before .before .before .before .before .before .before .before .before .before .before .before .entry-of .ensures .last-inside) in
+    let entry = c .before .before .before .before .before .before .before .before .before .before .before .before .before .before .before .before .entry-of in
+    let slot = c .before .before .before .put-slot in
+    let image : Image _ _ = record { valid = start .pre .0 .valid; long = slot .kept .0 ∙ start .pre .0 .long } in
+    let last = found-inside (start .args .g) (c .before .before .before .before .before .before .before .before .before .before .before .before .end .given .1) (entry .ensures .last-inside) in
     (image, last, c .before .before .before .before .before .before .before .before .before .before .before .before .before .before .system-of .ensures .inside)
 
 put-system-requires : tie.Need-put-system-requires
 put-system-requires c κs =
     let start = c .before .before .before .before .before .before .before .before .before .before .before .before .before .before .before .before .before .before .before .before .before .before .before in
-    let image : Image _ _ = record { valid = start .pre .0 .valid; long = c .before .before .before .put-link .kept .0 ∙ c .before .before .before .before .before .before .before .put-slot .kept .0 ∙ start .pre .0 .long } in
-    (image, c .before .before .before .before .before .before .before .before .before .before .before .before .before .before .before .before .before .before .before .before .entry-of .ensures .first-inside)
+    let entry = c .before .before .before .before .before .before .before .before .before .before .before .before .before .before .before .before .before .before .before .before .entry-of in
+    let slot = c .before .before .before .before .before .before .before .put-slot in
+    let link = c .before .before .before .put-link in
+    let image : Image _ _ = record { valid = start .pre .0 .valid; long = link .kept .0 ∙ slot .kept .0 ∙ start .pre .0 .long } in
+    (image, entry .ensures .first-inside)
 
 same-length-2 : tie.Need-same-length-2
 same-length-2 c = search needs
@@ -80,16 +85,18 @@ returns-2 c =
     let a = start .args in
     let entry = c .before .before .before .before .before .before .before .before .before .before .before .before .before .before .before .before .before .before .before .before .before .before .before .entry-of .ensures in
     let sys = c .before .before .before .before .before .before .before .before .before .before .before .before .before .before .before .before .before .before .before .before .before .system-of in
+    let slot = c .before .before .before .before .before .before .before .before .before .before .put-slot in
+    let link = c .before .before .before .before .before .before .put-link in
     let G : Geometry = geo (a .g) in
     let d : Disc = sectorsOf (a .g) (a .image .now) in
     let s : Slot = slotAt d (a .n .0) (a .i) in
-    let d₁ : Disc = sectorsOf (a .g) (c .before .before .before .before .before .before .before .before .before .before .put-slot .last .0) in
-    let d₂ : Disc = sectorsOf (a .g) (c .before .before .before .before .before .before .put-link .last .0) in
+    let d₁ : Disc = sectorsOf (a .g) (slot .last .0) in
+    let d₂ : Disc = sectorsOf (a .g) (link .last .0) in
     let d₃ : Disc = sectorsOf (a .g) (c .before .before .put-system .last .0) in
     let last = found-sector (c .before .before .before .before .before .before .before .before .before .before .before .before .before .before .before .before .before .before .before .end .given .1) (entry .last-is ∙ start .pre .3 .ends-at) in
     three-writes G d s (start .pre .3) d₁ d₂ d₃
-    (c .before .before .before .before .before .before .before .before .before .before .put-slot .ensures ∙ ap (λ (k : ℕ). set d (a .n .0) (withSlot (sector d (a .n .0)) (a .i) (k - 1) emptySlot)) (c .before .before .before .before .before .before .before .before .before .before .before .before .before .byte-of .ensures))
-    (c .before .before .before .before .before .before .put-link .ensures ∙ ap₂ (λ (n : ℕ) (p : Next). storedAt d₁ n linkPlace (linkBytes G p)) last (sys .ensures .leads))
+    (slot .ensures ∙ ap (λ (k : ℕ). set d (a .n .0) (withSlot (sector d (a .n .0)) (a .i) (k - 1) emptySlot)) (c .before .before .before .before .before .before .before .before .before .before .before .before .before .byte-of .ensures))
+    (link .ensures ∙ ap₂ (λ (n : ℕ) (p : Next). storedAt d₁ n linkPlace (linkBytes G p)) last (sys .ensures .leads))
     (c .before .before .put-system .ensures
     ∙ ap₂ (λ (p : Next) (k : ℕ). written (systemWrite G d₂ p (sys .result .free + k) (sys .result .used - k) ∷ []) d₂) (entry .first-is) (entry .length-is)
     ∙ ap₂ (λ (f u : ℕ). written (systemWrite G d₂ (firstOf G s) (f + lengthOf s) (u - lengthOf s) ∷ []) d₂) (sys .ensures .free-count) (sys .ensures .used-count))

@@ -34,7 +34,10 @@ sectors-for-requires : tie.Need-sectors-for-requires
 sectors-for-requires c κs = search needs
 
 put-file-requires : tie.Need-put-file-requires
-put-file-requires c κs = (c .before .before .before .before .before .before .before .before .before .before .pre .0, c .before .sectors-for .ensures, c .before .before .before .before .before .before .system-of .ensures .leads)
+put-file-requires c κs =
+    let count = c .before .sectors-for .ensures in
+    let sys = c .before .before .before .before .before .before .system-of .ensures in
+    (c .before .before .before .before .before .before .before .before .before .before .pre .0, count, sys .leads)
 
 enum-known-next : tie.Need-enum-known-next
 enum-known-next c = search needs
@@ -56,49 +59,59 @@ returns c =
 link-of-requires : tie.Need-link-of-requires
 link-of-requires c κs =
     let start = c .before .before .before .before .before .before .before .before .before .before .before .before .before .before .before .before .before .before in
-    let image : Image _ _ = record { valid = start .pre .0 .image-of .valid; long = c .before .before .before .before .before .before .before .put-file .kept .0 ∙ start .pre .0 .image-of .long } in
-    (image, found-inside (start .args .g) (c .before .before .next .given .1) (c .before .before .before .before .before .before .before .put-file .ensures .next-inside))
+    let file = c .before .before .before .before .before .before .before .put-file in
+    let image : Image _ _ = record { valid = start .pre .0 .image-of .valid; long = file .kept .0 ∙ start .pre .0 .image-of .long } in
+    let new = found-inside (start .args .g) (c .before .before .next .given .1) (file .ensures .next-inside) in
+    (image, new)
 
 grow-requires : tie.Need-grow-requires
 grow-requires c κs =
     let start = c .before .before .before .before .before .before .before .before .before .before .before .before .before .before .before .before .before .before .before .before .before in
-    let image : Image _ _ = record { valid = start .pre .0 .image-of .valid; long = c .before .before .before .before .before .before .before .before .before .before .put-file .kept .0 ∙ start .pre .0 .image-of .long } in
-    (image, c .before .before .before .before .before .before .before .before .before .before .before .before .before .last-sector .ensures .1, found-inside (start .args .g) (c .before .before .before .before .before .next .given .1) (c .before .before .before .before .before .before .before .before .before .before .put-file .ensures .next-inside))
+    let file = c .before .before .before .before .before .before .before .before .before .before .put-file in
+    let image : Image _ _ = record { valid = start .pre .0 .image-of .valid; long = file .kept .0 ∙ start .pre .0 .image-of .long } in
+    let new = found-inside (start .args .g) (c .before .before .before .before .before .next .given .1) (file .ensures .next-inside) in
+    (image, c .before .before .before .before .before .before .before .before .before .before .before .before .before .last-sector .ensures .1, new)
 
 add-put-system : tie.Need-add-put-system
 add-put-system c =
     let start = c .before .before .before .before .before .before .before .before .before .before .before .before .before .before .before .before .before .before .before .before .before .before .before .before .before in
+    let count = c .before .before .before .before .before .before .before .before .before .before .before .before .before .before .before .before .sectors-for .ensures in
     let a = start .args in
     let G : Geometry = geo (a .g) in
     let d : Disc = sectorsOf (a .g) (a .image .now) in
     let room = enough-is G d (length (a .sheet .now)) (start .pre .0 .enough) in
     let valid = start .pre .0 .image-of .valid in
-    omega (arith, c .before .before .before .before .before .before .before .before .before .before .before .before .before .before .before .before .sectors-for .ensures, room, start .pre .0 .savable .used-fits, valid .total, valid .few-sectors)
+    omega (arith, count, room, start .pre .0 .savable .used-fits, valid .total, valid .few-sectors)
 
 sub-put-system : tie.Need-sub-put-system
 sub-put-system c =
     let start = c .before .before .before .before .before .before .before .before .before .before .before .before .before .before .before .before .before .before .before .before .before .before .before .before .before in
+    let count = c .before .before .before .before .before .before .before .before .before .before .before .before .before .before .before .before .sectors-for .ensures in
+    let sys = c .before .before .before .before .before .before .before .before .before .before .before .before .before .before .before .before .before .before .before .before .before .system-of .ensures in
     let a = start .args in
     let G : Geometry = geo (a .g) in
     let d : Disc = sectorsOf (a .g) (a .image .now) in
     let room = enough-is G d (length (a .sheet .now)) (start .pre .0 .enough) in
-    omega (arith, c .before .before .before .before .before .before .before .before .before .before .before .before .before .before .before .before .sectors-for .ensures, room, growth-none G d (start .pre .1), c .before .before .before .before .before .before .before .before .before .before .before .before .before .before .before .before .before .before .before .before .before .system-of .ensures .free-count, start .pre .0 .savable .free-counted)
+    omega (arith, count, room, growth-none G d (start .pre .1), sys .free-count, start .pre .0 .savable .free-counted)
 
 add-put-system-2 : tie.Need-add-put-system-2
 add-put-system-2 c =
     let start = c .before .before .before .before .before .before .before .before .before .before .before .before .before .before .before .before .before .before .before .before .before .before .before .before .before in
+    let count = c .before .before .before .before .before .before .before .before .before .before .before .before .before .before .before .before .sectors-for .ensures in
+    let sys = c .before .before .before .before .before .before .before .before .before .before .before .before .before .before .before .before .before .before .before .before .before .system-of .ensures in
     let a = start .args in
     let G : Geometry = geo (a .g) in
     let d : Disc = sectorsOf (a .g) (a .image .now) in
     let room = enough-is G d (length (a .sheet .now)) (start .pre .0 .enough) in
     let valid = start .pre .0 .image-of .valid in
-    omega (arith, c .before .before .before .before .before .before .before .before .before .before .before .before .before .before .before .before .sectors-for .ensures, room, c .before .before .before .before .before .before .before .before .before .before .before .before .before .before .before .before .before .before .before .before .before .system-of .ensures .used-count, start .pre .0 .savable .used-fits, valid .total, valid .few-sectors)
+    omega (arith, count, room, sys .used-count, start .pre .0 .savable .used-fits, valid .total, valid .few-sectors)
 
 put-system-requires : tie.Need-put-system-requires
 put-system-requires c κs =
     let start = c .before .before .before .before .before .before .before .before .before .before .before .before .before .before .before .before .before .before .before .before .before .before .before .before .before in
+    let file = c .before .before .before .before .before .before .before .before .before .before .before .before .before .before .put-file in
     let rest = c .before .before .before .before .before .before .link-of in
-    let image : Image _ _ = record { valid = start .pre .0 .image-of .valid; long = c .before .before .before .grow .kept .0 ∙ c .before .before .before .before .before .before .before .before .before .before .before .before .before .before .put-file .kept .0 ∙ start .pre .0 .image-of .long } in
+    let image : Image _ _ = record { valid = start .pre .0 .image-of .valid; long = c .before .before .before .grow .kept .0 ∙ file .kept .0 ∙ start .pre .0 .image-of .long } in
     (image, inside (start .pre .0 .image-of .valid) (rest .result) _ _ (rest .ensures))
 
 same-length-2 : tie.Need-same-length-2
