@@ -15,11 +15,6 @@ ghost use Rattle.format.specs.Calls.{answered, afterBlank};
 ghost use Rattle.disc.specs.Meaning.{geo, meaning, sectorsOf, Valid, Inside, Image};
 ghost use Rattle.blank.specs.Meaning.{Ten, Passed};
 
-// Refusal numbers.
-const SIZE: u32 = 1;
-
-const NAME: u32 = 2;
-
 // 0/1 and 0/4, which the chain passes first, are taken.
 const TAKEN: usize = 2;
 
@@ -115,15 +110,15 @@ pub fn blank(image: &mut [u8], name: &[u8]) -> u32
     ensures { λ r. ⌜ answered r (now (image .exit)) ≡ afterBlank ten (now (image .entry)) (now (name .entry)) ⌝ }
 {
     match disc::geometry_of(image.len()) {
-        Sized::Wrong => SIZE,
+        Sized::Wrong => refusals::SIZE,
         Sized::Of(g) => {
             let parsed = names::disc_name(name);
             if !parsed.ok {
-                return NAME;
+                return refusals::NAME;
             }
             let stored = parsed.name;
             blank_on(image, g, stored);
-            0
+            refusals::DONE
         }
     }
 }

@@ -1,7 +1,6 @@
 -- Lists of entries: of one slot, of a directory sector from a slot on, and of the directory sectors from a pointer on.
 -- Assumes nothing.
-use mathlib.Core.Path.{_≡_, refl, sym, ap, ap₂, _∙_, subst}
-use mathlib.Core.Logic.{_⊎_, ⊎-elim}
+use mathlib.Core.Path.{_≡_, refl, sym, ap, ap₂, _∙_}
 use Prim.Native.Nat.{ℕ, suc, _+_, _-_, _≤_, _<_}
 use native.Mathlib.Omega.{arith}
 use mathlib.Core.Bool.{Bool, true, false, not}
@@ -10,14 +9,9 @@ use Rattle.format.specs.Lists.{range, consIf}
 use Rattle.format.specs.ListLaws.{filter-join}
 use Rattle.format.specs.Geometry.{Geometry, sectors, Next, go, Disc, sector}
 use Rattle.format.specs.Layout.{slotsEach, Slot, freeSlot, inUse, slotAt, slotsAt, slotsOf, linkOf, met, directoryPointer, directory, slots, entries}
-use Rattle.format.specs.ChainLaws.{met-stop, met-off, met-none, met-go}
-use denote.Enum.Declared.{tagOf}
-use Rattle.disc.proofs.Link.{the-type}
-use Rattle.disc.specs.Meaning.{geo, meaning, Valid, Inside}
+use Rattle.format.specs.ChainLaws.{met-none, met-go}
+use Rattle.disc.specs.Meaning.{geo, Valid}
 use Rattle.disc.specs.declared.Geometry as code
-use Rattle.disc.specs.declared.SectorNo.{SectorNo}
-use Rattle.disc.specs.declared.Link.{Link}
-use Rattle.disc.specs.declared.Link.the-variants.{End, To, Off}
 
 -- ---- slots in use
 
@@ -101,19 +95,3 @@ unfolding entriesFrom entries slots directory
 entries-start {g} v d p e =
     let steps : g .sectors - 0 ≡ sectors (geo g) = omega (arith, v .total) in
     ap₂ (λ (k : ℕ) (x : Next). entriesFrom (geo g) d k x) steps e
-
--- ---- links of the code
-
--- the number of a link's case, as a match on it tells
-abbrev pub caseOf : Link → ℕ
-caseOf l = tagOf the-type l
-
--- a link that leads to no sector
-pub met-ended : (G : Geometry) (d : Disc) (k : ℕ) (l : Link) → (caseOf l ≡ 0) ⊎ (caseOf l ≡ 2) → met G d k (meaning l) ≡ []
-met-ended G d k End h = met-stop G d k
-met-ended G d k (To n) h = absurd (⊎-elim (λ (e : caseOf (To n) ≡ 0). omega arith) (λ (e : caseOf (To n) ≡ 2). omega arith) h)
-met-ended G d k Off h = met-off G d k
-
--- a link inside the disc that leads to a sector
-pub inside-to : (g : code.Geometry) {l : Link} {n : SectorNo} → l ≡ To n → Inside g l → n .0 < g .sectors
-inside-to g e h = subst (Inside g) e h

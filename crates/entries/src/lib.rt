@@ -89,7 +89,7 @@ fn is_legal(image: &[u8], at: usize) -> bool
 fn is_attribute(b: u8) -> bool
     ensures { λ r. ⌜ r ≡ isAttribute b ⌝ }
 {
-    b == 0x00 || b == 0x80
+    b == slots::UNPROTECTED || b == slots::PROTECTED
 }
 
 // Whether the entry in slot i of sector n has a legal name, a length and an attribute.

@@ -3,22 +3,17 @@
 use mathlib.Core.Path.{_≡_, sym, ap, ap₂, _∙_}
 use Prim.Native.Nat.{ℕ, _+_, _-_}
 use native.Mathlib.Omega.{arith}
-use mathlib.Core.List.{List, [], _∷_, _++_}
+use mathlib.Core.List.{List, [], _∷_}
 use lib.ListN.{set}
 use lib.Seq.{sets}
-use Rattle.format.specs.Lists.{byte, word, lastOr}
-use Rattle.format.specs.Geometry.{Geometry, Next, Disc, sector, written}
+use Rattle.format.specs.Lists.{byte, lastOr}
+use Rattle.format.specs.Geometry.{Geometry, Disc, sector, written}
 use Rattle.format.specs.GeometryLaws.{sector-other}
-use Rattle.format.specs.Layout.{freePlace, freeCountPlace, linkPlace, inUsePlace, system, freeCount, usedCount, Slot, emptySlot, lengthOf, linkBytes, pairBytes, freePointer, firstOf, fileChain}
+use Rattle.format.specs.Layout.{linkPlace, inUsePlace, system, freeCount, usedCount, Slot, emptySlot, lengthOf, linkBytes, freePointer, firstOf, fileChain}
 use Rattle.format.specs.Effects.{withSlot, systemWrite, deleteWrites}
 use Rattle.disc.specs.Meaning.{storedAt}
 use Rattle.soundness.specs.WriteFacts.{Removable}
-
--- the system sector as it is written from the bytes that stand in it
-pub system-from : (G : Geometry) (d e : Disc) (p : Next) (f u : ℕ) → system e ≡ system d
-    → written (systemWrite G e p f u ∷ []) e ≡ written (systemWrite G d p f u ∷ []) e
-unfolding systemWrite
-system-from G d e p f u h = ap (λ (s : List ℕ). set e 0 (sets (sets s freePlace (pairBytes G p)) freeCountPlace (word f ++ word u))) h
+use Rattle.system.specs.Laws.{system-from}
 
 module _ (G : Geometry) (d : Disc) (s : Slot) (r : Removable G d s) where
   pub three-writes : (d₁ d₂ d₃ : Disc)

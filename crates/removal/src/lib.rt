@@ -5,22 +5,11 @@ use disc::Link;
 use disc::SectorNo;
 ghost use mathlib.Core.Path.{_≡_};
 ghost use Prim.Native.Nat.{_<_};
-ghost use lib.ListN.{set};
-ghost use Rattle.format.specs.Geometry.{sector, written};
+ghost use Rattle.format.specs.Geometry.{written};
 ghost use Rattle.format.specs.Layout.{slotsEach, slotAt};
-ghost use Rattle.format.specs.Effects.{withSlot, deleteWrites};
+ghost use Rattle.format.specs.Effects.{deleteWrites};
 ghost use Rattle.soundness.specs.WriteFacts.{Removable};
 ghost use Rattle.disc.specs.Meaning.{geo, sectorsOf, Image};
-
-// Writes the bytes of slot i of directory sector n, and how many entries of the sector are in use.
-pub fn put_slot(image: &mut [u8], g: Geometry, n: SectorNo, i: usize, in_use: u8, bytes: &[u8; 16])
-    requires { ⌜ Image g (now image) × (n .0 < g .sectors) × (i < slotsEach) ⌝ }
-    ensures { λ _. ⌜ sectorsOf g (now (image .exit)) ≡ set (sectorsOf g (now (image .entry))) (n .0) (withSlot (sector (sectorsOf g (now (image .entry))) (n .0)) i in_use (now (bytes .entry))) ⌝ }
-{
-    let count = [in_use];
-    disc::put(image, g, n, 2, &count);
-    disc::put(image, g, n, slots::slot_start(i), bytes);
-}
 
 // Writes the slot's sector, the file's last sector and the system sector.
 pub fn remove(image: &mut [u8], g: Geometry, n: SectorNo, i: usize)
@@ -40,7 +29,7 @@ pub fn remove(image: &mut [u8], g: Geometry, n: SectorNo, i: usize)
     let used = sys.used as usize - size;
     let in_use = disc::byte_of(image, g, n, 2);
     let zeros = [0u8; 16];
-    put_slot(image, g, n, i, in_use - 1, &zeros);
+    slots::put_slot(image, g, n, i, in_use - 1, &zeros);
     disc::put_link(image, g, last, pointer);
     system::put_system(image, g, first, free, used);
 }

@@ -22,7 +22,7 @@ use Rattle.soundness.specs.ChainWrites.{written-join, chained-other}
 use Rattle.soundness.specs.Counts.{last-of}
 use Rattle.soundness.specs.WriteFacts.{Savable}
 use Rattle.disc.specs.Meaning.{storedAt}
-use Rattle.removal.specs.Writes.{system-from}
+use Rattle.system.specs.Laws.{system-from}
 use Rattle.saving.specs.Meaning.{sectorsTaken, withModule, nextFree}
 use Rattle.saving.specs.Taking.{times-split, last-taken, free-next}
 

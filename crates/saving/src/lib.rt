@@ -107,7 +107,7 @@ fn entry_bytes(g: Geometry, name: Name, count: usize, first: Link, last: SectorN
         from.track,
         to.sector,
         to.track,
-        0,
+        slots::UNPROTECTED,
     ]
 }
 
@@ -160,7 +160,7 @@ fn save_in_slot(
     let file = put_file(image, g, pointer, name, m, sheet, count);
     let entry = file.entry;
     let next = file.next;
-    removal::put_slot(image, g, n, i, in_use + 1, &entry);
+    slots::put_slot(image, g, n, i, in_use + 1, &entry);
     system::put_system(image, g, next, free - count, used + count);
 }
 

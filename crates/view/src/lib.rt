@@ -6,11 +6,6 @@ ghost use Rattle.format.specs.Calls.{viewPart, viewNumber};
 ghost use Rattle.view.specs.Meaning.{viewStart, PartOf};
 use disc::Sized;
 
-// Refusal numbers.
-const SIZE: u32 = 1;
-
-const NO_SECTOR: u32 = 11;
-
 // Where a view starts in its image, or the number of its refusal.
 enum ViewStart {
     At(usize),
@@ -21,14 +16,14 @@ fn start_of_view(image: &[u8], track: u32, sector: u32) -> ViewStart
     ensures { λ r. ⌜ r ≡ viewStart (calls.view ten (now (image .entry)) track sector) ⌝ }
 {
     match disc::geometry_of(image.len()) {
-        Sized::Wrong => ViewStart::Refused(SIZE),
+        Sized::Wrong => ViewStart::Refused(refusals::SIZE),
         Sized::Of(g) => {
             let t = track as usize;
             let s = sector as usize;
             if disc::on_disc(g, t, s) {
                 return ViewStart::At(disc::start_of(g, disc::number_of(g, t, s)) + 2);
             }
-            ViewStart::Refused(NO_SECTOR)
+            ViewStart::Refused(refusals::NO_SECTOR)
         }
     }
 }
@@ -51,7 +46,7 @@ pub fn view_number(image: &[u8], track: u32, sector: u32) -> u32
     ensures { λ r. ⌜ r ≡ viewNumber ten (now (image .entry)) track sector ⌝ }
 {
     match start_of_view(image, track, sector) {
-        ViewStart::At(_) => 0,
+        ViewStart::At(_) => refusals::DONE,
         ViewStart::Refused(number) => number,
     }
 }

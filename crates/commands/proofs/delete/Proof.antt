@@ -5,7 +5,7 @@ use mathlib.Core.Path.{sym, _∙_}
 use Rattle.format.specs.Geometry.{Geometry, Disc}
 use Rattle.format.specs.Calls.{deleteOn, afterDelete}
 use Rattle.disc.specs.Laws.{image-of, geometry-is, geometry-wrong}
-use Rattle.commands.specs.Laws.{changed-size, changed-leaves}
+use Rattle.lookup.specs.Laws.{changed-size, changed-leaves}
 use Rattle.commands.proofs.delete.Statement.{statement}
 use Rattle.commands.proofs.delete.Tie as tie
 

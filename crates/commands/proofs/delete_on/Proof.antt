@@ -6,9 +6,10 @@ use mathlib.Core.Path.{sym, subst, _∙_}
 use Rattle.format.specs.Refusals.{PROTECTED}
 use Rattle.soundness.specs.WriteFacts.{removable}
 use Rattle.disc.specs.Meaning.{geo, sectorsOf}
-use Rattle.commands.specs.declared.Judged.{Judged}
-use Rattle.commands.specs.Meaning.{entryOn, Judges}
-use Rattle.commands.specs.Laws.{entry-ok, refuses-is, refuses-leaves, done-leaves, delete-refused, delete-protected, delete-done}
+use Rattle.lookup.specs.declared.Judged.{Judged}
+use Rattle.lookup.specs.Meaning.{entryOn, Judges}
+use Rattle.lookup.specs.Laws.{entry-ok, refuses-is, refuses-leaves, done-leaves}
+use Rattle.commands.specs.Laws.{delete-refused, delete-protected, delete-done}
 use Rattle.commands.proofs.delete_on.Statement.{statement}
 use Rattle.commands.proofs.delete_on.Tie as tie
 

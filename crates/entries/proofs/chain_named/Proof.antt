@@ -8,7 +8,8 @@ use native.Mathlib.Nat.{sub-zero}
 use Rattle.format.specs.Layout.{slotAt}
 use Rattle.disc.specs.Meaning.{geo, sectorsOf, meaning, Inside}
 use Rattle.disc.specs.Laws.{inside}
-use Rattle.entries.specs.Entries.{entriesFrom, entries-next, entries-over, met-over, met-ended, inside-to}
+use Rattle.entries.specs.Entries.{entriesFrom, entries-next, entries-over, met-over}
+use Rattle.links.specs.Links.{met-ended, found-inside}
 use Rattle.entries.specs.Differ.{named, named-over, named-here, named-later}
 use Rattle.entries.proofs.chain_named.Statement.{statement}
 use Rattle.entries.proofs.chain_named.Tie as tie
@@ -31,7 +32,7 @@ returns : tie.Need-returns Inv-loop μ-loop
 returns c = named-over _ (c .before .before .loop .inv .2) (entries-over _ _ _ _ (met-ended _ _ _ (c .before .before .loop .at) (c .match .keys2)))
 
 sector-named-requires : tie.Need-sector-named-requires Inv-loop μ-loop
-sector-named-requires c κs = let on = inside-to (c .before .before .before .before .before .before .args .g) (c .before .at .given .1) (c .before .before .before .before .loop .inv .1) in search needs
+sector-named-requires c κs = let on = found-inside (c .before .before .before .before .before .before .args .g) (c .before .at .given .1) (c .before .before .before .before .loop .inv .1) in search needs
 
 returns-2 : tie.Need-returns-2 Inv-loop μ-loop
 returns-2 c =
@@ -39,7 +40,7 @@ returns-2 c =
     (c .before .sector-named .ensures) (c .if1 .taken)
 
 link-of-requires : tie.Need-link-of-requires Inv-loop μ-loop
-link-of-requires c κs = (c .before .before .before .before .before .before .before .before .pre .0, inside-to _ (c .before .before .before .at .given .1) (c .before .before .before .before .before .before .loop .inv .1))
+link-of-requires c κs = (c .before .before .before .before .before .before .before .before .pre .0, found-inside _ (c .before .before .before .at .given .1) (c .before .before .before .before .before .before .loop .inv .1))
 
 add-count : tie.Need-add-count Inv-loop μ-loop
 add-count c = search needs

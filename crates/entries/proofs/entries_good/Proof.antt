@@ -10,7 +10,8 @@ use Rattle.format.specs.Layout.{met}
 use Rattle.format.specs.Check.{rule3}
 use Rattle.disc.specs.Meaning.{geo, sectorsOf, meaning, Inside}
 use Rattle.disc.specs.Laws.{inside}
-use Rattle.entries.specs.Entries.{met-over, met-next, met-ended, inside-to}
+use Rattle.entries.specs.Entries.{met-over, met-next}
+use Rattle.links.specs.Links.{met-ended, found-inside}
 use Rattle.entries.specs.Good.{goodSector, rule3-start, each-over, each-not, each-next}
 use Rattle.entries.proofs.entries_good.Statement.{statement}
 use Rattle.entries.proofs.entries_good.Tie as tie
@@ -36,7 +37,7 @@ returns : tie.Need-returns Inv-loop μ-loop
 returns c = each-over _ (c .before .before .loop .inv .2) (met-ended _ _ _ (c .before .before .loop .at) (c .match .keys2))
 
 sector-good-requires : tie.Need-sector-good-requires Inv-loop μ-loop
-sector-good-requires c κs = (c .before .before .before .before .before .before .before .pre, inside-to _ (c .before .at .given .1) (c .before .before .before .before .loop .inv .1))
+sector-good-requires c κs = (c .before .before .before .before .before .before .before .pre, found-inside _ (c .before .at .given .1) (c .before .before .before .before .loop .inv .1))
 
 returns-2 : tie.Need-returns-2 Inv-loop μ-loop
 returns-2 c =
@@ -44,7 +45,7 @@ returns-2 c =
     (c .before .sector-good .ensures) (not-true _ (c .if1 .taken))
 
 link-of-requires : tie.Need-link-of-requires Inv-loop μ-loop
-link-of-requires c κs = (c .before .before .before .before .before .before .before .before .before .pre, inside-to _ (c .before .before .before .at .given .1) (c .before .before .before .before .before .before .loop .inv .1))
+link-of-requires c κs = (c .before .before .before .before .before .before .before .before .before .pre, found-inside _ (c .before .before .before .at .given .1) (c .before .before .before .before .before .before .loop .inv .1))
 
 add-count : tie.Need-add-count Inv-loop μ-loop
 add-count c = search needs

@@ -8,7 +8,8 @@ use borrow.Author.Tests.{not-true, not-false}
 use Rattle.format.specs.Check.{differ, rule4}
 use Rattle.disc.specs.Meaning.{geo, sectorsOf, meaning, Inside}
 use Rattle.disc.specs.Laws.{inside}
-use Rattle.entries.specs.Entries.{entriesFrom, entries-next, entries-over, met-over, met-ended, inside-to}
+use Rattle.entries.specs.Entries.{entriesFrom, entries-next, entries-over, met-over}
+use Rattle.links.specs.Links.{met-ended, found-inside}
 use Rattle.entries.specs.Differ.{rule4-start, differ-over, differ-not, differ-next}
 use Rattle.entries.proofs.names_differ.Statement.{statement}
 use Rattle.entries.proofs.names_differ.Tie as tie
@@ -34,7 +35,7 @@ returns : tie.Need-returns Inv-loop μ-loop
 returns c = differ-over (c .before .before .loop .inv .2) (entries-over _ _ _ _ (met-ended _ _ _ (c .before .before .loop .at) (c .match .keys2)))
 
 link-of-requires : tie.Need-link-of-requires Inv-loop μ-loop
-link-of-requires c κs = (c .before .before .before .before .before .before .before .pre, inside-to _ (c .before .at .given .1) (c .before .before .before .before .loop .inv .1))
+link-of-requires c κs = (c .before .before .before .before .before .before .before .pre, found-inside _ (c .before .at .given .1) (c .before .before .before .before .loop .inv .1))
 
 add-count : tie.Need-add-count Inv-loop μ-loop
 add-count c = search needs
@@ -43,7 +44,7 @@ sub-sector-differs : tie.Need-sub-sector-differs Inv-loop μ-loop
 sub-sector-differs c = search needs
 
 sector-differs-requires : tie.Need-sector-differs-requires Inv-loop μ-loop
-sector-differs-requires c κs = (c .before .before .before .before .before .before .before .before .pre, inside-to _ (c .before .before .at .given .1) (c .before .before .before .before .before .loop .inv .1), inside (c .before .before .before .before .before .before .before .before .pre .valid) (c .link-of .result) _ _ (c .link-of .ensures))
+sector-differs-requires c κs = (c .before .before .before .before .before .before .before .before .pre, found-inside _ (c .before .before .at .given .1) (c .before .before .before .before .before .loop .inv .1), inside (c .before .before .before .before .before .before .before .before .pre .valid) (c .link-of .result) _ _ (c .link-of .ensures))
 
 returns-2 : tie.Need-returns-2 Inv-loop μ-loop
 returns-2 c =

@@ -7,7 +7,8 @@ use mathlib.Core.Path.{refl, ap}
 use Rattle.format.specs.Layout.{entries}
 use Rattle.disc.specs.Meaning.{geo, sectorsOf, meaning, Inside}
 use Rattle.disc.specs.Laws.{inside}
-use Rattle.entries.specs.Entries.{entriesFrom, entries-start, entries-next, entries-over, met-over, met-ended, inside-to}
+use Rattle.entries.specs.Entries.{entriesFrom, entries-start, entries-next, entries-over, met-over}
+use Rattle.links.specs.Links.{met-ended, found-inside}
 use Rattle.fsck.specs.Marks.{marked}
 use Rattle.fsck.specs.Files.{filesOf, filed, at-most, Filing, filing-start, filing-over, filing-bad, filing-next}
 use Rattle.fsck.proofs.all_files.Statement.{statement}
@@ -40,7 +41,7 @@ returns c =
     record { answer = end .0; marks = λ _. end .1; few = omega arith }
 
 sector-files-requires : tie.Need-sector-files-requires Inv-loop μ-loop
-sector-files-requires c κs = (c .before .before .before .before .before .before .before .before .pre, inside-to _ (c .before .before .at .given .1) (c .before .before .before .before .before .loop .inv .3))
+sector-files-requires c κs = (c .before .before .before .before .before .before .before .before .pre, found-inside _ (c .before .before .at .given .1) (c .before .before .before .before .before .loop .inv .3))
 
 enum-known-more : tie.Need-enum-known-more Inv-loop μ-loop
 enum-known-more c = search needs
@@ -57,7 +58,7 @@ add-sum : tie.Need-add-sum Inv-loop μ-loop
 add-sum c = omega (arith, at-most _ (c .before .more .given .1) (c .before .before .before .sector-files .ensures .few), c .before .before .before .before .before .before .before .before .before .loop .inv, c .before .before .before .before .before .before .before .before .loop-test)
 
 link-of-requires : tie.Need-link-of-requires Inv-loop μ-loop
-link-of-requires c κs = (c .before .before .before .before .before .before .before .before .before .before .before .before .pre, inside-to _ (c .before .before .before .before .before .before .at .given .1) (c .before .before .before .before .before .before .before .before .before .loop .inv .3))
+link-of-requires c κs = (c .before .before .before .before .before .before .before .before .before .before .before .before .pre, found-inside _ (c .before .before .before .before .before .before .at .given .1) (c .before .before .before .before .before .before .before .before .before .loop .inv .3))
 
 add-count : tie.Need-add-count Inv-loop μ-loop
 add-count c = search needs

@@ -8,7 +8,7 @@ use Rattle.format.specs.Geometry.{sectors}
 use Rattle.format.specs.Layout.{chain}
 use Rattle.disc.specs.Meaning.{geo, sectorsOf, meaning, Inside}
 use Rattle.disc.specs.Laws.{inside}
-use Rattle.entries.specs.Entries.{inside-to}
+use Rattle.links.specs.Links.{found-inside}
 use Rattle.fsck.specs.Marks.{marked}
 use Rattle.fsck.specs.Walks.{walk, Walking, walking-start, walking-stop, walking-off, walking-long, walking-twice, walking-go}
 use Rattle.fsck.proofs.follow.Statement.{statement}
@@ -44,19 +44,19 @@ returns-3 : tie.Need-returns-3 Inv-loop μ-loop
 returns-3 c = record { answer = walking-long (c .before .before .before .before .loop .inv .2) _ (ap meaning (c .before .before .at .given .1)) (c .if1 .taken); marks = λ z. absurd z }
 
 element-copy-out-if2 : tie.Need-element-copy-out-if2 Inv-loop μ-loop
-element-copy-out-if2 c = omega (arith, inside-to (c .before .before .before .before .before .before .args .g) (c .before .before .at .given .1) (c .before .before .before .before .loop .inv .1))
+element-copy-out-if2 c = omega (arith, found-inside (c .before .before .before .before .before .before .args .g) (c .before .before .at .given .1) (c .before .before .before .before .loop .inv .1))
 
 returns-4 : tie.Need-returns-4 Inv-loop μ-loop
 returns-4 c = record { answer = walking-twice (c .before .before .before .before .before .before .loop .inv .2) _ (ap meaning (c .before .before .before .before .at .given .1)) (omega arith) (c .if2 .taken); marks = λ z. absurd z }
 
 element-write-marks : tie.Need-element-write-marks Inv-loop μ-loop
-element-write-marks c = omega (arith, inside-to (c .before .before .before .before .before .before .before .before .args .g) (c .before .before .before .before .at .given .1) (c .before .before .before .before .before .before .loop .inv .1))
+element-write-marks c = omega (arith, found-inside (c .before .before .before .before .before .before .before .before .args .g) (c .before .before .before .before .at .given .1) (c .before .before .before .before .before .before .loop .inv .1))
 
 add-count : tie.Need-add-count Inv-loop μ-loop
 add-count c = search needs
 
 link-of-requires : tie.Need-link-of-requires Inv-loop μ-loop
-link-of-requires c κs = (c .before .before .before .before .before .before .before .before .pre .0, inside-to _ (c .before .before .before .before .at .given .1) (c .before .before .before .before .before .before .loop .inv .1))
+link-of-requires c κs = (c .before .before .before .before .before .before .before .before .pre .0, found-inside _ (c .before .before .before .before .at .given .1) (c .before .before .before .before .before .before .loop .inv .1))
 
 loop-less : tie.Need-loop-less Inv-loop μ-loop
 loop-less c = search needs

@@ -10,7 +10,7 @@ use Rattle.format.specs.Geometry.{Geometry, Next, Disc, sector, written}
 use Rattle.format.specs.Layout.{linkPlace, Slot, emptySlot, lengthOf, slotAt, linkBytes, firstOf}
 use Rattle.format.specs.Effects.{withSlot, systemWrite}
 use Rattle.disc.specs.Meaning.{geo, sectorsOf, storedAt, Image}
-use Rattle.removal.specs.Links.{not-other, found-sector, found-inside}
+use Rattle.links.specs.Links.{not-other, found-sector, found-inside}
 use Rattle.removal.specs.Writes.{three-writes}
 use Rattle.removal.proofs.remove.Statement.{statement}
 use Rattle.removal.proofs.remove.Tie as tie

@@ -16,7 +16,7 @@ use Rattle.format.specs.ModuleLaws.{sectors-fit, bodies-many}
 use Rattle.disc.specs.Meaning.{geo, meaning, sectorsOf, Inside}
 use Rattle.disc.specs.Laws.{inside}
 use Rattle.modules.specs.Meaning.{moduleOf}
-use Rattle.removal.specs.Links.{not-other, found-inside}
+use Rattle.links.specs.Links.{not-other, found-inside}
 use Rattle.saving.specs.Meaning.{sectorsTaken}
 use Rattle.saving.specs.Links.{link-inside}
 use Rattle.saving.specs.Taking.{Linked, free-linked, Taking, taking-start, taking-to, taking-step, taking-end}

@@ -13,7 +13,7 @@ use Rattle.format.specs.Effects.{systemWrite}
 use Rattle.disc.specs.Meaning.{geo, sectorsOf, Image}
 use Rattle.disc.specs.Laws.{inside}
 use Rattle.modules.specs.Meaning.{moduleOf}
-use Rattle.removal.specs.Links.{not-other, found-sector, found-inside}
+use Rattle.links.specs.Links.{not-other, found-sector, found-inside}
 use Rattle.saving.specs.Writes.{growth-none, enough-is, next-grown, saved-grown}
 use Rattle.saving.proofs.save_and_grow.Statement.{statement}
 use Rattle.saving.proofs.save_and_grow.Tie as tie

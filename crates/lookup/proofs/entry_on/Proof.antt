@@ -1,4 +1,4 @@
--- `commands::entry_on` meets its contract.
+-- `lookup::entry_on` meets its contract.
 -- Assumes nothing.
 use borrow.Author.Needs.{needs}
 use borrow.Author.Tests.{not-true, not-false}
@@ -15,9 +15,9 @@ use Rattle.disc.specs.Meaning.{geo, sectorsOf}
 use Rattle.names.specs.declared.Parsed.{Parsed}
 use Rattle.names.specs.Answer.{parsed-none, parsed-some}
 use Rattle.directory.specs.Meaning.{foundOf, Within}
-use Rattle.commands.specs.Laws.{entry-name, entry-unsound, entry-find, found-ok, found-none, refuses-is}
-use Rattle.commands.proofs.entry_on.Statement.{statement}
-use Rattle.commands.proofs.entry_on.Tie as tie
+use Rattle.lookup.specs.Laws.{entry-name, entry-unsound, entry-find, found-ok, found-none, refuses-is}
+use Rattle.lookup.proofs.entry_on.Statement.{statement}
+use Rattle.lookup.proofs.entry_on.Tie as tie
 
 file-name-requires : tie.Need-file-name-requires
 file-name-requires c κs = search needs

@@ -1,4 +1,4 @@
--- What the steps of a command mean: the entry that it names, and the sectors that it leaves.
+-- What the steps of a call mean: the entry that it names, and the sectors that a command leaves.
 -- Assumes nothing.
 use mathlib.Core.Path.{_≡_}
 use Prim.Native.Nat.{ℕ, _<_}
@@ -12,8 +12,8 @@ use Rattle.format.specs.Layout.{slotsEach, Slot, slotAt, find}
 use Rattle.format.specs.Check.{sound}
 use Rattle.disc.specs.Meaning.{sectorsOf}
 use Rattle.disc.specs.declared.Geometry.{Geometry}
-use Rattle.commands.specs.declared.Judged.{Judged}
-use Rattle.commands.specs.declared.Judged.the-variants.{At, Refused}
+use Rattle.lookup.specs.declared.Judged.{Judged}
+use Rattle.lookup.specs.declared.Judged.the-variants.{At, Refused}
 
 -- the refusals 2, 3 and 4, which read, delete and protect begin with: the entry of the name
 unfoldable pub entryOn : format.Geometry → Disc → (name : List ℕ) → Try Refusal Slot

@@ -1,10 +1,10 @@
--- `commands::is_protected` meets its contract.
+-- `lookup::is_protected` meets its contract.
 -- Assumes nothing.
 use borrow.Author.Needs.{needs}
 use mathlib.Core.Path.{ap}
 use Rattle.format.specs.Layout.{isProtected}
-use Rattle.commands.proofs.is_protected.Statement.{statement}
-use Rattle.commands.proofs.is_protected.Tie as tie
+use Rattle.lookup.proofs.is_protected.Statement.{statement}
+use Rattle.lookup.proofs.is_protected.Tie as tie
 
 entry-of-requires : tie.Need-entry-of-requires
 entry-of-requires c κs = search needs

@@ -1,11 +1,15 @@
--- Laws of links that the code takes apart: where a link is known to lead to a sector, a match finds that sector.
+-- Laws of links that code takes apart by a match: one that leads to a sector, and one that ends a walk.
 -- Assumes nothing.
 use mathlib.Core.Path.{_≡_, sym, ap, _∙_, subst}
 use mathlib.Core.Logic.{_⊎_, ⊎-elim}
 use Prim.Native.Nat.{ℕ, _<_}
 use native.Mathlib.Omega.{arith}
 use denote.Enum.Declared.{tagOf}
-use Rattle.format.specs.Geometry.{go}
+use mathlib.Core.List.{[]}
+use Rattle.format.specs.Geometry as format
+use Rattle.format.specs.Geometry.{go, Disc}
+use Rattle.format.specs.Layout.{met}
+use Rattle.format.specs.ChainLaws.{met-stop, met-off}
 use Rattle.disc.proofs.Link.{the-type}
 use Rattle.disc.specs.Meaning.{meaning, Inside}
 use Rattle.disc.specs.declared.Geometry.{Geometry}
@@ -30,3 +34,9 @@ found-sector {m = m} {n = n} e f = let same : go (m .0) ≡ go n = sym (ap meani
 -- it is on the disc
 pub found-inside : (g : Geometry) {l : Link} {m : SectorNo} → l ≡ To m → Inside g l → m .0 < g .sectors
 found-inside g e h = subst (Inside g) e h
+
+-- a walk from a link that leads to no sector
+pub met-ended : (G : format.Geometry) (d : Disc) (k : ℕ) (l : Link) → (caseOf l ≡ 0) ⊎ (caseOf l ≡ 2) → met G d k (meaning l) ≡ []
+met-ended G d k End h = met-stop G d k
+met-ended G d k (To n) h = absurd (⊎-elim (λ (e : caseOf (To n) ≡ 0). omega arith) (λ (e : caseOf (To n) ≡ 2). omega arith) h)
+met-ended G d k Off h = met-off G d k

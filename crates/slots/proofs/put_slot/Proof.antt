@@ -1,4 +1,4 @@
--- `removal::put_slot` meets its contract: two stores in the one sector.
+-- `slots::put_slot` meets its contract: two stores in the one sector.
 -- Assumes nothing.
 use borrow.Author.Needs.{needs}
 use native.Mathlib.Omega.{arith}
@@ -11,8 +11,8 @@ use Rattle.format.specs.GeometryLaws.{length-cut, sector-again}
 use Rattle.format.specs.Layout.{inUsePlace, slotStart}
 use Rattle.format.specs.Effects.{withSlot}
 use Rattle.disc.specs.Meaning.{geo, sectorsOf, storedAt}
-use Rattle.removal.proofs.put_slot.Statement.{statement}
-use Rattle.removal.proofs.put_slot.Tie as tie
+use Rattle.slots.proofs.put_slot.Statement.{statement}
+use Rattle.slots.proofs.put_slot.Tie as tie
 
 slice-aggregate-put : tie.Need-slice-aggregate-put
 slice-aggregate-put c = search needs

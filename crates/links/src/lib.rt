@@ -1,0 +1,1 @@
+// Laws of links that code takes apart: all of this crate is in specs/.

@@ -1,0 +1,122 @@
+-- Laws that the calls share: refusals one after the other, and from the sectors that a command leaves to its image.
+-- Assumes nothing.
+use mathlib.Core.Path.{_≡_, refl, sym, ap, ap₂, subst, _∙_}
+use Prim.Native.Nat.{ℕ}
+use native.Mathlib.Omega.{arith}
+use mathlib.Core.Bool.{Bool, true, false, not}
+use mathlib.Core.Option.{Option, none, some}
+use mathlib.Core.List.{List}
+use lib.ListN.{length}
+use borrow.Author.Tests.{not-false}
+use Rattle.format.specs.Refusals.{Try, Refusal, SIZE, NAME, UNSOUND, ABSENT, numberOf, refused, ok, _>>=_, _>>_, refuse_if_, _orRefuse_, number, valueOr}
+use Rattle.format.specs.RefusalLaws.{refused-ok, ok-is, or-ok, if-ok}
+use Rattle.format.specs.Geometry.{Geometry, ten, geometry, Disc, cut, flat, Write, written}
+use Rattle.format.specs.GeometryLaws.{flat-cut}
+use Rattle.format.specs.Names.{stored}
+use Rattle.format.specs.Layout.{Slot, find}
+use Rattle.format.specs.Check.{sound}
+use Rattle.format.specs.Calls.{answered, answerBy, changed}
+use Rattle.disc.specs.Meaning.{geo, sectorsOf, Image}
+use Rattle.disc.specs.declared.Geometry as code
+use Rattle.lookup.specs.Meaning.{entryOn, Refuses, writtenBy, Leaves}
+
+-- ---- the entry of a name
+
+module _ (G : Geometry) (d : Disc) (name : List ℕ) where
+  pub entry-name : stored name ≡ none → entryOn G d name ≡ refused NAME
+  unfolding entryOn _>>=_ _orRefuse_
+  entry-name e = rw e
+
+  module _ (nine : List ℕ) (e : stored name ≡ some nine) where
+    pub entry-unsound : sound G d ≡ false → entryOn G d name ≡ refused UNSOUND
+    unfolding entryOn _>>=_ _>>_ refuse_if_ _orRefuse_
+    entry-unsound s = rw (e, s)
+
+    pub entry-find : sound G d ≡ true → entryOn G d name ≡ (find G d nine orRefuse ABSENT)
+    unfolding entryOn _>>=_ _>>_ refuse_if_ _orRefuse_
+    entry-find s = rw (e, s)
+
+  -- what is then done with the entry
+  pub entry-then : {A : Type 0} (f : Slot → Try Refusal A)
+      → (stored name orRefuse NAME >>= λ nine. (refuse UNSOUND if not (sound G d) >> (find G d nine orRefuse ABSENT >>= f))) ≡ (entryOn G d name >>= f)
+  unfolding entryOn _>>=_ _>>_ refuse_if_ _orRefuse_
+  entry-then {A} f = by-name (stored name)
+    where
+      by-find : (o : Option Slot) → (o orRefuse ABSENT >>= f) ≡ ((o orRefuse ABSENT) >>= f)
+      by-find o = refl
+
+      by-sound : (nine : List ℕ) (b : Bool) → (refuse UNSOUND if b >> (find G d nine orRefuse ABSENT >>= f)) ≡ ((refuse UNSOUND if b >> (find G d nine orRefuse ABSENT)) >>= f)
+      by-sound nine true = refl
+      by-sound nine false = refl
+
+      by-name : (o : Option (List ℕ)) → (o orRefuse NAME >>= λ nine. (refuse UNSOUND if not (sound G d) >> (find G d nine orRefuse ABSENT >>= f)))
+          ≡ ((o orRefuse NAME >>= λ nine. (refuse UNSOUND if not (sound G d) >> (find G d nine orRefuse ABSENT))) >>= f)
+      by-name none = refl
+      by-name (some nine) = by-sound nine (not (sound G d))
+
+  -- a found entry: the disc is sound, and it is the entry of the stored name
+  pub record Entry (s : Slot) : Type 0 where
+    pub nine : List ℕ
+    pub checked : sound G d ≡ true
+    pub found : find G d nine ≡ some s
+
+  pub entry-ok : (s : Slot) → entryOn G d name ≡ ok s → Entry s
+  unfolding entryOn _orRefuse_
+  entry-ok s p =
+      let a = or-ok _ (stored name) _ p in
+      let b = if-ok _ _ _ (a .2) in
+      record { nine = a .0; checked = not-false _ (b .0); found = is (find G d (a .0)) (b .1) }
+    where
+      is : (o : Option Slot) → (o orRefuse ABSENT) ≡ ok s → o ≡ some s
+      is none e = absurd (refused-ok e)
+      is (some x) e = ap some (ok-is e)
+
+-- a search that found, and one that did not
+pub found-ok : (o : Option Slot) (s : Slot) → o ≡ some s → (o orRefuse ABSENT) ≡ ok s
+unfolding _orRefuse_
+found-ok o s e = rw e
+
+pub found-none : (o : Option Slot) → o ≡ none → (o orRefuse ABSENT) ≡ refused ABSENT
+unfolding _orRefuse_
+found-none o e = rw e
+
+-- ---- refused on the way
+
+pub refuses-is : {A : Type 0} (t : Try Refusal A) (e : Refusal) → t ≡ refused e → Refuses t (numberOf e)
+refuses-is t e p = subst (λ (t : Try Refusal _). Refuses t (numberOf e)) (sym p) refl
+
+module _ {A B : Type 0} where
+  pub refuses-then : (t : Try Refusal A) (f : A → Try Refusal B) (k : ℕ) → Refuses t k → Refuses (t >>= f) k
+  unfolding _>>=_
+  refuses-then (refused e) f k h = h
+  refuses-then (ok a) f k h = absurd h
+
+pub refuses-leaves : (g : code.Geometry) (image : List ℕ) (t : Try Refusal (List Write)) (k : ℕ) → Refuses t k → Leaves g image image k t
+unfolding number
+refuses-leaves g image (refused e) k h = record { answers = sym h; sectors-are = refl }
+refuses-leaves g image (ok ws) k h = absurd h
+
+pub done-leaves : (g : code.Geometry) (before after : List ℕ) (t : Try Refusal (List Write)) (ws : List Write) → t ≡ ok ws
+    → sectorsOf g after ≡ written ws (sectorsOf g before) → Leaves g before after 0 t
+unfolding number
+done-leaves g before after t ws e h = record { answers = sym (ap number e); sectors-are = h ∙ sym (ap (λ (t : Try Refusal (List Write)). writtenBy t (sectorsOf g before)) e) }
+
+-- ---- from sectors to the image
+
+module _ (image : List ℕ) (f : Geometry → Disc → Try Refusal (List Write)) where
+  pub changed-size : geometry ten (length image) ≡ refused SIZE → answerBy image (changed ten image f) ≡ answered 1 image
+  unfolding answerBy changed _>>=_ number valueOr
+  changed-size e = rw e
+
+  pub changed-leaves : (g : code.Geometry) (after : List ℕ) (r : ℕ) → geometry ten (length image) ≡ ok (geo g) → Image g image → length after ≡ length image
+      → Leaves g image after r (f (geo g) (sectorsOf g image)) → answered r after ≡ answerBy image (changed ten image f)
+  unfolding answerBy changed _>>=_ number valueOr
+  changed-leaves g after r e im long l = rw e (by (f (geo g) (sectorsOf g image)) l)
+    where
+      whole : (x : List ℕ) → length x ≡ length image → flat (geo g) (sectorsOf g x) ≡ x
+      whole x h = flat-cut (geo g) x (omega (arith, im .long, im .valid .total))
+
+      by : (t : Try Refusal (List Write)) → Leaves g image after r t
+          → answered r after ≡ answered (number (t >>= λ ws. ok (flat (geo g) (written ws (cut (geo g) image))))) (valueOr image (t >>= λ ws. ok (flat (geo g) (written ws (cut (geo g) image)))))
+      by (refused q) l = ap₂ answered (l .answers) (sym (whole after long) ∙ ap (flat (geo g)) (l .sectors-are) ∙ whole image refl)
+      by (ok ws) l = ap₂ answered (l .answers) (sym (whole after long) ∙ ap (flat (geo g)) (l .sectors-are))
