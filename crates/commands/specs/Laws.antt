@@ -2,15 +2,16 @@
 -- Assumes nothing.
 use mathlib.Core.Path.{_≡_, refl, sym, subst, _∙_}
 use Prim.Native.Nat.{ℕ}
-use mathlib.Core.Bool.{true, false}
+use mathlib.Core.Bool.{true, false, not}
 use mathlib.Core.Option.{Option, none, some}
 use mathlib.Core.List.{List, [], _∷_}
+use lib.Dec.{eqb}
 use Rattle.format.specs.Refusals.{Try, Refusal, NAME, TAKEN, PROTECTED, refused, ok, _>>=_, _>>_, refuse_if_, _orRefuse_}
 use Rattle.format.specs.Geometry.{Geometry, Disc, Write}
 use Rattle.format.specs.Names.{stored}
-use Rattle.format.specs.Layout.{namePlace, Slot, attributeOf, isProtected, find}
+use Rattle.format.specs.Layout.{namePlace, attributePlace, attribute, Slot, attributeOf, isProtected, protectedAs, find}
 use Rattle.format.specs.Effects.{slotWrite, deleteWrites}
-use Rattle.format.specs.Calls.{deleteOn, renameOn}
+use Rattle.format.specs.Calls.{deleteOn, renameOn, protectOn}
 use Rattle.lookup.specs.Meaning.{entryOn, Refuses}
 use Rattle.lookup.specs.Laws.{entry-then, refuses-then}
 use Rattle.commands.specs.Meaning.{renameTo}
@@ -69,3 +70,17 @@ module _ (G : Geometry) (d : Disc) (old new : List ℕ) where
     pub rename-entry : (s : Slot) → entryOn G d old ≡ ok s → renameOn G d old new ≡ renameTo G d nine s
     unfolding _>>=_
     rename-entry s p = rename-is nine e ∙ rw p
+
+-- ---- protect
+
+module _ (G : Geometry) (d : Disc) (name : List ℕ) (on : ℕ) where
+  pub protect-is : protectOn G d name on ≡ (entryOn G d name >>= λ s. ok (slotWrite d s attributePlace (protectedAs (not (eqb on 0)) (attributeOf s) ∷ []) ∷ []))
+  unfolding protectOn
+  protect-is = entry-then G d name (λ s. ok (slotWrite d s attributePlace (protectedAs (not (eqb on 0)) (attributeOf s) ∷ []) ∷ []))
+
+  pub protect-refused : (k : ℕ) → Refuses (entryOn G d name) k → Refuses (protectOn G d name on) k
+  protect-refused k h = subst (λ (t : Try Refusal (List Write)). Refuses t k) (sym protect-is) (refuses-then (entryOn G d name) _ k h)
+
+  pub protect-done : (s : Slot) → entryOn G d name ≡ ok s → protectOn G d name on ≡ ok (slotWrite d s attributePlace (attribute (not (eqb on 0)) ∷ []) ∷ [])
+  unfolding _>>=_
+  protect-done s e = protect-is ∙ rw e

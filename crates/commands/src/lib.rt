@@ -92,3 +92,36 @@ pub fn rename(image: &mut [u8], old: &[u8], new: &[u8]) -> u32
         Sized::Of(g) => rename_on(image, g, old, new),
     }
 }
+
+// The attribute that protect writes: 0 is off, any other number on.
+fn attribute_for(on: u32) -> u8
+    ensures { λ r. ⌜ r ≡ attribute (not (eqb on 0)) ⌝ }
+{
+    if on == 0 {
+        return slots::UNPROTECTED;
+    }
+    slots::PROTECTED
+}
+
+fn protect_on(image: &mut [u8], g: Geometry, name: &[u8], on: u32) -> u32
+    requires { ⌜ Image g (now image) ⌝ }
+    ensures { λ r. ⌜ Leaves g (now (image .entry)) (now (image .exit)) r (protectOn (geo g) (sectorsOf g (now (image .entry))) (now (name .entry)) on) ⌝ }
+{
+    match lookup::entry_on(image, g, name) {
+        Judged::Refused(number) => number,
+        Judged::At(n, i) => {
+            let attribute = [attribute_for(on)];
+            put_in_slot(image, g, n, i, 15, &attribute);
+            refusals::DONE
+        }
+    }
+}
+
+pub fn protect(image: &mut [u8], name: &[u8], on: u32) -> u32
+    ensures { λ r. ⌜ answered r (now (image .exit)) ≡ afterProtect ten (now (image .entry)) (now (name .entry)) on ⌝ }
+{
+    match disc::geometry_of(image.len()) {
+        Sized::Wrong => refusals::SIZE,
+        Sized::Of(g) => protect_on(image, g, name, on),
+    }
+}
