@@ -3,3 +3,4 @@ pub mod Bytes
 pub mod Links
 pub mod Taking
 pub mod Writes
+pub mod Orders

@@ -1,16 +1,18 @@
--- What the functions that save rely on, and what those that write a module ensure.
+-- What the functions that save rely on, what those that write a module ensure, and the steps of the call.
 -- Assumes nothing.
 use mathlib.Core.Path.{_≡_}
 use Prim.Native.Nat.{ℕ, _≤_, _<_}
 use mathlib.Core.List.{List}
 use lib.ListN.{length, take}
+use lib.Dec.{ltb}
 use Rattle.format.specs.Lists.{lastOr}
+use Rattle.format.specs.Refusals.{Try, Refusal, TAKEN, ROOM, ok, _>>_, refuse_if_}
 use Rattle.format.specs.Geometry as format
-use Rattle.format.specs.Geometry.{Disc, sector, written}
-use Rattle.format.specs.Layout.{linkOf, free}
+use Rattle.format.specs.Geometry.{Disc, sector, Write, written}
+use Rattle.format.specs.Layout.{linkOf, free, find}
 use Rattle.format.specs.Modules.{Module, sectorsFor, bodies}
 use Rattle.format.specs.ModuleLaws.{Allowed}
-use Rattle.format.specs.Effects.{chained, entryBytes, needed}
+use Rattle.format.specs.Effects.{isSome, chained, entryBytes, needed, saveWrites}
 use Rattle.soundness.specs.WriteFacts.{Savable}
 use Rattle.disc.specs.Meaning.{geo, meaning, sectorsOf, Inside, Image}
 use Rattle.disc.specs.declared.Geometry.{Geometry}
@@ -50,3 +52,14 @@ pub record FiledAs (g : Geometry) (before after nine : List ℕ) (m : Module) (f
   pub entry-is : f .entry ≡ entryBytes (geo g) nine (sectorsTaken (geo g) (sectorsOf g before) m)
   pub next-is : meaning (f .next) ≡ nextFree (geo g) (sectorsOf g before) m
   pub next-inside : Inside g (f .next)
+
+-- the module that a save is handed: its page, start and transfer, and the sheet
+abbrev pub handed : (page start transfer : ℕ) (sheet : List ℕ) → Module
+handed page start transfer sheet = record { page = page; start = start; transfer = transfer; bytes = sheet }
+
+-- the refusals 5 and 8, and the writes of a save under a stored name
+unfoldable pub saveAs : format.Geometry → Disc → (nine : List ℕ) → Module → Try Refusal (List Write)
+saveAs G d nine m = do
+  refuse TAKEN if isSome (find G d nine)
+  refuse ROOM if ltb (length (free G d)) (needed G d (length (m .bytes)))
+  ok (saveWrites G d nine m)

@@ -1,27 +1,33 @@
-// The sector writes of save: the module goes into the first sectors of the free chain, its entry into the first free slot or
-// into a new directory sector, and the free pointer and the counts follow.
+// Save: its refusals in order, then its sector writes. The module goes into the first sectors of the free chain, its entry into
+// the first free slot or into a new directory sector, and the free pointer and the counts follow.
 use directory::Found;
 use disc::Geometry;
 use disc::Link;
 use disc::SectorNo;
+use disc::Sized;
 use modules::Numbers;
 use names::Name;
 ghost use mathlib.Core.Path.{_≡_};
-ghost use mathlib.Core.Bool.{false, cond};
+ghost use mathlib.Core.Bool.{true, false, _&&_, cond};
 ghost use mathlib.Core.Option.{none, some};
 ghost use mathlib.Core.List.{[], _∷_, _++_};
-ghost use Prim.Native.Nat.{_+_, _<_};
+ghost use Prim.Native.Nat.{_+_, _-_, _<_};
 ghost use lib.Dec.{leb, ltb};
 ghost use lib.ListN.{length, replicate, set};
 ghost use Rattle.format.specs.Lists.{word};
-ghost use Rattle.format.specs.Geometry.{stop, go, written};
+ghost use Rattle.format.specs.Geometry.{ten, stop, go, written};
+ghost use Rattle.format.specs.Names.{legalStored};
 ghost use Rattle.format.specs.Layout.{slotsEach, linkPlace, attribute, freeCount, slotAt, linkBytes, pairBytes, freePointer, free, openSlot};
+ghost use Rattle.format.specs.Check.{sound};
 ghost use Rattle.format.specs.Modules.{sectorsFor};
+ghost use Rattle.format.specs.ModuleLaws.{Allowed};
 ghost use Rattle.format.specs.Effects.{withSlot, growth, saveWrites};
+ghost use Rattle.format.specs.Calls.{answered, saveOn, afterSave};
 ghost use Rattle.disc.specs.Meaning.{geo, meaning, sectorsOf, storedAt, Valid, Inside, Image};
 ghost use Rattle.modules.specs.Meaning.{moduleOf};
 ghost use Rattle.directory.specs.Meaning.{Finds};
-ghost use Rattle.saving.specs.Meaning.{Ready, Placed, FiledAs};
+ghost use Rattle.lookup.specs.Meaning.{Leaves};
+ghost use Rattle.saving.specs.Meaning.{Ready, Placed, FiledAs, handed, saveAs};
 
 // Whether the free chain has the sectors of a file of `count` sectors, and one more where no slot is free. `slot` is what
 // `directory::open_slot` found.
@@ -204,5 +210,81 @@ pub fn put_save(image: &mut [u8], g: Geometry, slot: Found, name: Name, m: Numbe
     match slot {
         Found::At(n, i) => save_in_slot(image, g, n, i, name, m, sheet),
         Found::Nothing => save_and_grow(image, g, name, m, sheet),
+    }
+}
+
+// Whether a module can have this page and start address and so many bytes.
+fn is_allowed(page: u32, start: u16, size: usize) -> bool
+    ensures { λ r. ⌜ r ≡ leb page 7 && leb 1 size && leb size (65536 - start) ⌝ }
+{
+    if 7 < page {
+        return false;
+    }
+    if size < 1 {
+        return false;
+    }
+    size <= 65536 - start as usize
+}
+
+// The refusals 5 and 8, then the writes.
+fn save_as(image: &mut [u8], g: Geometry, name: Name, m: Numbers, sheet: &[u8]) -> u32
+    requires { ⌜ Image g (now image) × (sound (geo g) (sectorsOf g (now image)) ≡ true) × (legalStored (name .bytes) ≡ true) × Allowed (moduleOf m (now sheet)) ⌝ }
+    ensures { λ r. ⌜ Leaves g (now (image .entry)) (now (image .exit)) r (saveAs (geo g) (sectorsOf g (now (image .entry))) (name .bytes) (moduleOf m (now (sheet .entry)))) ⌝ }
+{
+    if let Found::At(_, _) = directory::find(image, g, name) {
+        return refusals::TAKEN;
+    }
+    let slot = directory::open_slot(image, g);
+    if !has_room(image, g, slot, modules::sectors_for(sheet.len())) {
+        return refusals::ROOM;
+    }
+    put_save(image, g, slot, name, m, sheet);
+    refusals::DONE
+}
+
+fn save_on(
+    image: &mut [u8],
+    g: Geometry,
+    name: &[u8],
+    page: u32,
+    start: u16,
+    transfer: u16,
+    sheet: &[u8],
+) -> u32
+    requires { ⌜ Image g (now image) ⌝ }
+    ensures { λ r. ⌜ Leaves g (now (image .entry)) (now (image .exit)) r (saveOn (geo g) (sectorsOf g (now (image .entry))) (now (name .entry)) (handed page start transfer (now (sheet .entry)))) ⌝ }
+{
+    let parsed = names::file_name(name);
+    if !parsed.ok {
+        return refusals::NAME;
+    }
+    let stored = parsed.name;
+    if !is_allowed(page, start, sheet.len()) {
+        return refusals::MODULE;
+    }
+    let m = Numbers {
+        page: page as u8,
+        start,
+        transfer,
+    };
+    if !fsck::is_sound(image, g) {
+        return refusals::UNSOUND;
+    }
+    save_as(image, g, stored, m, sheet)
+}
+
+pub fn save(
+    image: &mut [u8],
+    name: &[u8],
+    page: u32,
+    start: u16,
+    transfer: u16,
+    sheet: &[u8],
+) -> u32
+    ensures { λ r. ⌜ answered r (now (image .exit)) ≡ afterSave ten (now (image .entry)) (now (name .entry)) (handed page start transfer (now (sheet .entry))) ⌝ }
+{
+    match disc::geometry_of(image.len()) {
+        Sized::Wrong => refusals::SIZE,
+        Sized::Of(g) => save_on(image, g, name, page, start, transfer, sheet),
     }
 }

@@ -2,7 +2,7 @@
 -- Assumes nothing.
 use borrow.Author.Needs.{needs}
 use Prim.Native.Nat.{ℕ}
-use mathlib.Core.Path.{sym, ap, subst, _∙_}
+use mathlib.Core.Path.{ap, subst, _∙_}
 use mathlib.Core.List.{[], _∷_}
 use Rattle.format.specs.Geometry.{written}
 use Rattle.format.specs.Layout.{attributePlace, slotAt}
