@@ -1,4 +1,4 @@
--- The records of a listing by their parts, and what storing bytes in a buffer gives.
+-- The records of a listing by their parts, what storing bytes in a buffer gives, and the answer of the call.
 -- Assumes nothing.
 use mathlib.Core.Path.{_≡_}
 use Prim.Native.Nat.{ℕ, _+_}
@@ -8,6 +8,8 @@ use lib.Seq.{sets}
 use Rattle.format.specs.Lists.{word, joined}
 use Rattle.format.specs.Geometry.{Disc}
 use Rattle.format.specs.Layout.{freeCount, usedCount, discNameOf, Slot, inUse, nameOf, lengthOf, attributeOf}
+use Rattle.format.specs.Calls.{ListAnswer}
+use Rattle.listing.specs.declared.Listed.{Listed}
 
 -- "kind 1, nine disc name bytes, free count, used count (low first)"
 abbrev pub discRecord : Disc → List ℕ
@@ -25,3 +27,7 @@ recordsOf ss = joined (map entryRecord (inUse ss))
 pub record Stored (before : List ℕ) (at : ℕ) (bytes after : List ℕ) (next : ℕ) : Type 0 where
   pub buffer : after ≡ sets before at bytes
   pub place : next ≡ at + length bytes
+
+-- what the code answers, and the buffer afterwards
+abbrev pub listAnswer : Listed → List ℕ → ListAnswer
+listAnswer r buffer = record { number = r .number; size = r .length; buffer = buffer }

@@ -1,18 +1,21 @@
-// The records of the list command: their length, and their bytes at the front of a lent buffer.
-// They are what stands on the disc, sound or not.
+// List as a call: its refusals in document 01's order, then its records at the front of a lent buffer.
+// The length of the records and their bytes are what stands on the disc, sound or not.
 use directory::Step;
 use disc::Geometry;
 use disc::SectorNo;
+use disc::Sized;
 ghost use mathlib.Core.Path.{_≡_};
 ghost use mathlib.Core.List.{[], _∷_, _++_};
 ghost use Prim.Native.Nat.{_+_, _*_, _/_, _%_, _≤_, _<_};
 ghost use lib.ListN.{length};
 ghost use lib.Seq.{sets};
 ghost use Rattle.format.specs.Lists.{front};
+ghost use Rattle.format.specs.Geometry.{ten};
 ghost use Rattle.format.specs.Layout.{slotsEach, inUse, slotAt, slotsAt, slots, entries};
 ghost use Rattle.format.specs.Effects.{listing};
+ghost use Rattle.format.specs.Calls.{listOn, listAnswerBy, afterList};
 ghost use Rattle.disc.specs.Meaning.{geo, sectorsOf, Image};
-ghost use Rattle.listing.specs.Meaning.{entryRecord, recordsOf, discRecord, Stored};
+ghost use Rattle.listing.specs.Meaning.{entryRecord, recordsOf, discRecord, Stored, listAnswer};
 
 // 1 for a slot with an entry, 0 for a free one.
 fn count_slot(image: &[u8], g: Geometry, n: SectorNo, i: usize) -> usize
@@ -57,9 +60,9 @@ fn count_entries(image: &[u8], g: Geometry) -> usize
 }
 
 // The length of all records: 14 bytes for the disc, 13 for an entry, 1 at the end.
-pub fn listing_length(image: &[u8], g: Geometry) -> usize
+fn listing_length(image: &[u8], g: Geometry) -> usize
     requires { ⌜ Image g (now image) ⌝ }
-    ensures { λ r. ⌜ r ≡ length (listing (geo g) (sectorsOf g (now (image .entry)))) ⌝ }
+    ensures { λ r. ⌜ (r ≡ length (listing (geo g) (sectorsOf g (now (image .entry))))) × (r ≤ 15 + 13 * (slotsEach * g .sectors)) ⌝ }
 {
     14 + 13 * count_entries(image, g) + 1
 }
@@ -175,11 +178,55 @@ fn put_entries(image: &[u8], g: Geometry, buffer: &mut [u8], at: usize) -> usize
 }
 
 // Writes all records to the front of a buffer that they fit in.
-pub fn put_listing(image: &[u8], g: Geometry, buffer: &mut [u8])
+fn put_listing(image: &[u8], g: Geometry, buffer: &mut [u8])
     requires { ⌜ Image g (now image) × (length (listing (geo g) (sectorsOf g (now image))) ≤ length (now buffer)) ⌝ }
     ensures { λ _. ⌜ now (buffer .exit) ≡ front (listing (geo g) (sectorsOf g (now (image .entry)))) (now (buffer .entry)) ⌝ }
 {
     let first = put_disc(image, g, buffer);
     let last = put_entries(image, g, buffer, first);
     buffer[last] = 0;
+}
+
+// The answer of list: the number, and the length of the records. The layout is C's, since the call is exported.
+#[repr(C)]
+pub struct Listed {
+    pub number: u32,
+    pub length: u32,
+}
+
+// The refusals 3 and 10, then the records.
+fn list_on(image: &[u8], g: Geometry, buffer: &mut [u8]) -> Listed
+    requires { ⌜ Image g (now image) ⌝ }
+    ensures { λ r. ⌜ listAnswer r (now (buffer .exit)) ≡ listAnswerBy (now (buffer .entry)) (listOn (geo g) (sectorsOf g (now (image .entry))) (length (now (buffer .entry)))) ⌝ }
+{
+    if !fsck::is_sound(image, g) {
+        return Listed {
+            number: refusals::UNSOUND,
+            length: 0,
+        };
+    }
+    let length = listing_length(image, g);
+    if buffer.len() < length {
+        return Listed {
+            number: refusals::SHORT,
+            length: 0,
+        };
+    }
+    put_listing(image, g, buffer);
+    Listed {
+        number: refusals::DONE,
+        length: length as u32,
+    }
+}
+
+pub fn list(image: &[u8], buffer: &mut [u8]) -> Listed
+    ensures { λ r. ⌜ listAnswer r (now (buffer .exit)) ≡ afterList ten (now (image .entry)) (now (buffer .entry)) ⌝ }
+{
+    match disc::geometry_of(image.len()) {
+        Sized::Wrong => Listed {
+            number: refusals::SIZE,
+            length: 0,
+        },
+        Sized::Of(g) => list_on(image, g, buffer),
+    }
 }

@@ -1,0 +1,45 @@
+-- `listing::list` meets its contract.
+-- Assumes nothing.
+use borrow.Author.Needs.{needs}
+use mathlib.Core.Path.{sym, _∙_}
+use Rattle.disc.specs.Laws.{geometry-is, geometry-wrong, image-of}
+use Rattle.listing.specs.Answer.{after-size, after-on}
+use Rattle.listing.proofs.list.Statement.{statement}
+use Rattle.listing.proofs.list.Tie as tie
+
+geometry-of-requires : tie.Need-geometry-of-requires
+geometry-of-requires c κs = search needs
+
+enum-told : tie.Need-enum-told
+enum-told c = search needs
+
+enum-known-g : tie.Need-enum-known-g
+enum-known-g c = search needs
+
+list-on-requires : tie.Need-list-on-requires
+list-on-requires c κs = image-of _ (c .before .before .before .before .before .before .before .args .image .now) (sym (c .before .before .before .before .geometry-of .ensures) ∙ c .before .before .g .given .1)
+
+returns : tie.Need-returns
+returns c =
+    let a = c .before .before .before .before .before .args in
+    after-size (a .image .now) (a .buffer .now) (geometry-wrong _ (sym (c .before .before .geometry-of .ensures) ∙ c .enum-told .given .1))
+
+same-length : tie.Need-same-length
+same-length c = search needs
+
+returns-2 : tie.Need-returns-2
+returns-2 c =
+    let a = c .before .before .before .before .before .before .before .before .before .before .args in
+    c .before .before .list-on .ensures ∙ after-on (a .image .now) (a .buffer .now) _ (geometry-is _ _ (sym (c .before .before .before .before .before .before .before .geometry-of .ensures) ∙ c .before .before .before .before .before .g .given .1))
+
+pub list-spec : {M : Type 1} → statement M
+list-spec =
+    tie.close
+    (tie.spec
+    geometry-of-requires
+    enum-told
+    enum-known-g
+    list-on-requires
+    returns
+    same-length
+    returns-2)
