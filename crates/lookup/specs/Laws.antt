@@ -15,7 +15,7 @@ use Rattle.format.specs.GeometryLaws.{flat-cut}
 use Rattle.format.specs.Names.{stored}
 use Rattle.format.specs.Layout.{Slot, find}
 use Rattle.format.specs.Check.{sound}
-use Rattle.format.specs.Calls.{answered, answerBy, changed}
+use Rattle.format.specs.Calls.{answered, answerBy, asked, changed}
 use Rattle.disc.specs.Meaning.{geo, sectorsOf, Image}
 use Rattle.disc.specs.declared.Geometry as code
 use Rattle.lookup.specs.Meaning.{entryOn, Refuses, writtenBy, Leaves}
@@ -102,6 +102,15 @@ unfolding number
 done-leaves g before after t ws e h = record { answers = sym (ap number e); sectors-are = h ∙ sym (ap (λ (t : Try Refusal (List Write)). writtenBy t (sectorsOf g before)) e) }
 
 -- ---- from sectors to the image
+
+module _ {A : Type 0} (image : List ℕ) (f : Geometry → Disc → Try Refusal A) where
+  pub asked-size : geometry ten (length image) ≡ refused SIZE → asked ten image f ≡ refused SIZE
+  unfolding asked _>>=_
+  asked-size e = rw e
+
+  pub asked-on : (G : Geometry) → geometry ten (length image) ≡ ok G → asked ten image f ≡ f G (cut G image)
+  unfolding asked _>>=_
+  asked-on G e = rw e
 
 module _ (image : List ℕ) (f : Geometry → Disc → Try Refusal (List Write)) where
   pub changed-size : geometry ten (length image) ≡ refused SIZE → answerBy image (changed ten image f) ≡ answered 1 image
