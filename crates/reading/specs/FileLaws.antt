@@ -1,6 +1,7 @@
 -- Laws of a file: links that lead on, its sectors one after the other, and the header by the tests of the code.
 -- Assumes nothing.
 use mathlib.Core.Path.{_≡_, refl, sym, ap, ap₂, _∙_}
+use mathlib.Core.Logic.{_⊎_}
 use Prim.Native.Nat.{ℕ, _+_, _-_, _≤_, _<_}
 use native.Mathlib.Omega.{arith}
 use mathlib.Core.Bool.{Bool, true, false, _&&_, cond, false≢true}
@@ -14,12 +15,15 @@ use Rattle.format.specs.ListLaws.{and-true, all-map, all-mapped}
 use Rattle.format.specs.Geometry as format
 use Rattle.format.specs.Geometry.{Next, stop, go, off, pointed, onDisc, sectorNumber, Disc, sector}
 use Rattle.format.specs.GeometryLaws.{pointed-on, cut-full, sector-full}
-use Rattle.format.specs.Layout.{linkOf, met, chain, chainEnds}
-use Rattle.format.specs.ChainLaws.{met-stop, met-off, met-none, met-go, met-below, ends-chain, chain-met}
+use Rattle.format.specs.Layout.{Slot, lengthOf, linkOf, met, firstOf, fileChain}
+use Rattle.format.specs.ChainLaws.{met-stop, met-off, met-none, met-go, met-below, chain-met}
 use Rattle.format.specs.Modules.{endOf, sectorsFor, guessed, plain}
-use Rattle.format.specs.Effects.{body}
-use Rattle.disc.specs.Meaning.{geo, sectorsOf, Image}
+use Rattle.format.specs.Effects.{body, reading}
+use Rattle.soundness.specs.Filed.{GoodChain}
+use Rattle.disc.specs.Meaning.{geo, meaning, sectorsOf, Image}
 use Rattle.disc.specs.declared.Geometry.{Geometry}
+use Rattle.disc.specs.declared.Link.{Link}
+use Rattle.links.specs.Links.{caseOf, met-ended}
 use Rattle.reading.specs.Plain.{filled, laterFilled, laterBytes, sizeOf, numbered, headed}
 use Rattle.reading.specs.Meaning.{leads, after, bodyOf, bodiesOf, fileBodies, bodiesAfter, File, Followed, notPlain, headerOf, numbersIn}
 use Rattle.reading.specs.PlainLaws.{Long, plain-is, headed-size, headed-end, headed-numbered, not-numbered, other-count, by-filled}
@@ -192,17 +196,23 @@ module _ {g : Geometry} {image : List ℕ} {first count : ℕ} (f : File g image
         ∙ ap (λ (t : Bool). cond (t && laterFilled (sizeOf (bodyOf g image first) - 245) (bodiesAfter g image first (count - 1))) (numbersIn (bodyOf g image first)) notPlain) (is-headed ∙ o)
         ∙ ap (λ (n : Header). cond (laterFilled (n .length - 245) (bodiesAfter g image first (count - 1))) n notPlain) (sym (by-test (is-headed ∙ o)))
 
--- ---- a file on a sound disc
+-- ---- the file of an entry on a sound disc
 
--- its first sector and its length are what the functions of this crate ask for, and its sectors are the whole chain
-module _ {g : Geometry} {image : List ℕ} (first count : ℕ) (i : Image g image) (on : first < g .sectors)
-    (ended : chainEnds (geo g) (sectorsOf g image) (go first) ≡ true)
-    (long : length (chain (geo g) (sectorsOf g image) (go first)) ≡ count) (some-sector : 1 ≤ count) where
-  whole-chain : met (geo g) (sectorsOf g image) count (go first) ≡ chain (geo g) (sectorsOf g image) (go first)
-  whole-chain = chain-met (geo g) (sectorsOf g image) count (ends-chain (geo g) (sectorsOf g image) (format.sectors (geo g)) (go first) ended) (omega arith)
+module _ {g : Geometry} {image : List ℕ} {s : Slot} (i : Image g image) (file : GoodChain (geo g) (sectorsOf g image) s) (some-sector : 1 ≤ lengthOf s) where
+  pub entry-leads : (l : Link) → meaning l ≡ firstOf (geo g) s → (caseOf l ≡ 0) ⊎ (caseOf l ≡ 2) → ⊥
+  unfolding fileChain
+  entry-leads l e h =
+      let none : length (met (geo g) (sectorsOf g image) (format.sectors (geo g)) (meaning l)) ≡ 0 = ap length (met-ended (geo g) (sectorsOf g image) (format.sectors (geo g)) l h) in
+      omega (arith, rw e at none, file .as-long)
 
-  pub chain-file : File g image first count
-  chain-file = record { on-image = i; on-disc = on; some-sector = some-sector; lasts = ap length whole-chain ∙ long }
+  -- its first sector and its length are what the functions of this crate ask for, and its sectors are the whole chain
+  module _ (first count : ℕ) (starts : firstOf (geo g) s ≡ go first) (on : first < g .sectors) (long : count ≡ lengthOf s) where
+    whole-chain : met (geo g) (sectorsOf g image) count (go first) ≡ fileChain (geo g) (sectorsOf g image) s
+    whole-chain = ap (met (geo g) (sectorsOf g image) count) (sym starts) ∙ chain-met (geo g) (sectorsOf g image) count (file .chained) (omega (arith, file .as-long))
 
-  pub chain-bodies : fileBodies g image first count ≡ bodiesOf (sectorsOf g image) (chain (geo g) (sectorsOf g image) (go first))
-  chain-bodies = ap (bodiesOf (sectorsOf g image)) whole-chain
+    pub entry-file : File g image first count
+    entry-file = record { on-image = i; on-disc = on; some-sector = omega arith; lasts = ap length whole-chain ∙ file .as-long ∙ sym long }
+
+    pub entry-reading : plain (fileBodies g image first count) ≡ reading (geo g) (sectorsOf g image) s
+    unfolding reading
+    entry-reading = ap (λ (ns : List ℕ). plain (bodiesOf (sectorsOf g image) ns)) whole-chain

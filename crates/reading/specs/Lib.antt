@@ -5,3 +5,5 @@ pub mod Meaning
 pub mod SectorLaws
 pub mod FileLaws
 pub mod CopyLaws
+pub mod Answer
+pub mod AnswerLaws

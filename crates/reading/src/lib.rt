@@ -1,27 +1,34 @@
-// Reading a load module back: whether a file's sectors hold one, its numbers, and its bytes.
+// Reading a load module back: whether a file's sectors hold one, its numbers, and its bytes; and read, the public call.
 use disc::Geometry;
+use disc::Link;
 use disc::SectorNo;
+use disc::Sized;
+use lookup::Judged;
 ghost use mathlib.Core.Path.{_≡_};
 ghost use Prim.Native.Nat.{min, _+_, _-_, _≤_, _<_};
 ghost use mathlib.Core.Bool.{true, _&&_, cond};
 ghost use lib.ListN.{length, drop};
 ghost use lib.Dec.{eqb, leb};
 ghost use Rattle.format.specs.Lists.{all, front};
-ghost use Rattle.format.specs.Geometry.{go, sector};
-ghost use Rattle.format.specs.Layout.{linkOf};
+ghost use Rattle.format.specs.Geometry.{ten, go, sector};
+ghost use Rattle.format.specs.Layout.{slotsEach, lengthOf, slotAt, linkOf};
 ghost use Rattle.format.specs.Modules.{plain};
+ghost use Rattle.format.specs.Effects.{reading};
+ghost use Rattle.format.specs.Calls.{readOn, readAnswerBy, afterRead};
+ghost use Rattle.soundness.specs.Filed.{GoodChain};
 ghost use Rattle.disc.specs.Meaning.{geo, sectorsOf, Image};
 ghost use Rattle.reading.specs.Plain.{filled, headed, laterFilled};
 ghost use Rattle.reading.specs.Meaning.{notPlain, headerOf, bytesIn, numbersIn, leads, bodyOf, fileBodies, bodiesAfter, File, Copied};
+ghost use Rattle.reading.specs.Answer.{readAnswer, refusal, fileOn};
 
 // What is read of a module but its bytes. Where the sectors hold none, `ok` is false and the numbers are 0.
-pub struct Header {
-    pub ok: bool,
-    pub page: u8,
-    pub start: u16,
-    pub end: u16,
-    pub transfer: u16,
-    pub length: u32,
+struct Header {
+    ok: bool,
+    page: u8,
+    start: u16,
+    end: u16,
+    transfer: u16,
+    length: u32,
 }
 
 const NOT_PLAIN: Header = Header {
@@ -158,7 +165,7 @@ fn later_filled(image: &[u8], g: Geometry, first: SectorNo, count: usize, length
 }
 
 // The header of the module in a file of `count` sectors from `first` on.
-pub fn plain_header(image: &[u8], g: Geometry, first: SectorNo, count: usize) -> Header
+fn plain_header(image: &[u8], g: Geometry, first: SectorNo, count: usize) -> Header
     requires { ⌜ File g (now image) (first .0) count ⌝ }
     ensures { λ r. ⌜ r ≡ headerOf (plain (fileBodies g (now (image .entry)) (first .0) count)) ⌝ }
 {
@@ -196,7 +203,7 @@ fn copy_part(
 }
 
 // Copies the bytes of the module in a file of `count` sectors from `first` on to the front of the buffer; `size` is how many they are.
-pub fn copy_module(
+fn copy_module(
     image: &[u8],
     g: Geometry,
     first: SectorNo,
@@ -214,5 +221,96 @@ pub fn copy_module(
         n = next_of(image, g, n);
         at = copy_part(image, g, n, 3, buffer, at, size);
         j += 1;
+    }
+}
+
+// The answer of read. The layout is C's, since the call is exported. With a refusal every other number is 0.
+#[repr(C)]
+pub struct Reading {
+    pub number: u32,
+    pub page: u32,
+    pub start: u32,
+    pub end: u32,
+    pub transfer: u32,
+    pub length: u32,
+}
+
+fn refused(number: u32) -> Reading
+    ensures { λ r. ⌜ r ≡ refusal number ⌝ }
+{
+    Reading {
+        number,
+        page: 0,
+        start: 0,
+        end: 0,
+        transfer: 0,
+        length: 0,
+    }
+}
+
+// The refusals 9 and 10, then the module in a file of `count` sectors from `first` on.
+fn read_module(
+    image: &[u8],
+    g: Geometry,
+    first: SectorNo,
+    count: usize,
+    buffer: &mut [u8],
+) -> Reading
+    requires { ⌜ File g (now image) (first .0) count ⌝ }
+    ensures { λ r. ⌜ readAnswer r (now (buffer .exit)) ≡ readAnswerBy (now (buffer .entry)) (fileOn (plain (fileBodies g (now (image .entry)) (first .0) count)) (length (now (buffer .entry)))) ⌝ }
+{
+    let header = plain_header(image, g, first, count);
+    if !header.ok {
+        return refused(refusals::NOT_PLAIN);
+    }
+    let size = header.length as usize;
+    if buffer.len() < size {
+        return refused(refusals::SHORT);
+    }
+    copy_module(image, g, first, count, size, buffer);
+    Reading {
+        number: refusals::DONE,
+        page: header.page as u32,
+        start: header.start as u32,
+        end: header.end as u32,
+        transfer: header.transfer as u32,
+        length: header.length,
+    }
+}
+
+// The same for the file of the entry in slot i of sector n. The caller knows that the disc is sound, so the answer 3 never occurs.
+fn read_file(image: &[u8], g: Geometry, n: SectorNo, i: usize, buffer: &mut [u8]) -> Reading
+    requires { do
+      let d = sectorsOf g (now image)
+      let s = slotAt d (n .0) i
+      ⌜ Image g (now image) × (n .0 < g .sectors) × (i < slotsEach) × GoodChain (geo g) d s × (1 ≤ lengthOf s) ⌝ }
+    ensures { λ r. do
+      let d = sectorsOf g (now (image .entry))
+      ⌜ readAnswer r (now (buffer .exit)) ≡ readAnswerBy (now (buffer .entry)) (fileOn (reading (geo g) d (slotAt d (n .0) i)) (length (now (buffer .entry)))) ⌝ }
+{
+    let entry = directory::entry_of(image, g, n, i);
+    let start = entry.first;
+    let Link::To(first) = start else {
+        return refused(refusals::UNSOUND);
+    };
+    read_module(image, g, first, entry.length as usize, buffer)
+}
+
+fn read_on(image: &[u8], g: Geometry, name: &[u8], buffer: &mut [u8]) -> Reading
+    requires { ⌜ Image g (now image) ⌝ }
+    ensures { λ r. ⌜ readAnswer r (now (buffer .exit)) ≡ readAnswerBy (now (buffer .entry)) (readOn (geo g) (sectorsOf g (now (image .entry))) (now (name .entry)) (length (now (buffer .entry)))) ⌝ }
+{
+    match lookup::entry_on(image, g, name) {
+        Judged::Refused(number) => refused(number),
+        Judged::At(n, i) => read_file(image, g, n, i, buffer),
+    }
+}
+
+pub fn read(image: &[u8], name: &[u8], buffer: &mut [u8]) -> Reading
+    ensures { λ r. ⌜ readAnswer r (now (buffer .exit)) ≡ afterRead ten (now (image .entry)) (now (name .entry)) (now (buffer .entry)) ⌝ }
+{
+    match disc::geometry_of(image.len()) {
+        Sized::Wrong => refused(refusals::SIZE),
+        Sized::Of(g) => read_on(image, g, name, buffer),
     }
 }
