@@ -15,5 +15,3 @@ pub mod ModuleLaws
 pub mod Effects
 pub mod Calls
 pub mod CallLaws
-pub mod History
-pub mod Demand3

@@ -20,7 +20,7 @@ use Rattle.format.specs.NameLaws.{letters-true}
 use Rattle.format.specs.Check.{broken}
 use Rattle.format.specs.Effects.{blankDisc}
 use Rattle.format.specs.Calls.{asked, blank, answerBy, checkAnswerBy, afterCheck, afterBlank}
-use Rattle.format.specs.Demand3.{BlankStarts}
+use Rattle.history.specs.Demand3.{BlankStarts}
 use Rattle.soundness.specs.Laid.{laid-sound}
 use Rattle.history.specs.Answers.{zero-ok}
 use Rattle.history.specs.Demand.{SoundFormat, image-bounded, ten-sound}

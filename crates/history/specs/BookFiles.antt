@@ -13,7 +13,7 @@ use Rattle.format.specs.Geometry.{Geometry, Disc, sector}
 use Rattle.format.specs.Layout.{Slot, nameOf, lengthOf, linkOf, firstOf, lastOf, fileChain}
 use Rattle.format.specs.Modules.{Module, plain}
 use Rattle.format.specs.Effects.{body, reading}
-use Rattle.format.specs.History.{File, named}
+use Rattle.history.specs.History.{File, named}
 use Rattle.soundness.specs.Places.{Place}
 use Rattle.soundness.specs.NameCounts.{ofName, called}
 use Rattle.soundness.specs.Filed.{GoodChain, entriesOf, chainsOf, Filed}

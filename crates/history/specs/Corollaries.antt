@@ -18,8 +18,8 @@ use Rattle.format.specs.ModuleLaws.{allowed-true, plain-only}
 use Rattle.format.specs.Effects.{reading}
 use Rattle.format.specs.Calls.{saveOn, changed, answerBy, readAnswerBy, afterCheck, afterRead, afterSave}
 use Rattle.format.specs.CallLaws.{save-ok}
-use Rattle.format.specs.History.{Command, save, step, run, File, Book, nineOf, accepted, entered, openingBook, bookAfter, says}
-use Rattle.format.specs.Demand3.{isSound, Handed, Moment}
+use Rattle.history.specs.History.{Command, save, step, run, File, Book, nineOf, accepted, entered, openingBook, bookAfter, says}
+use Rattle.history.specs.Demand3.{isSound, Handed, Moment}
 use Rattle.history.specs.OnlyOne.{all-got}
 use Rattle.history.specs.Answers.{zero-ok}
 use Rattle.history.specs.State.{nine-of}

@@ -15,7 +15,7 @@ use Rattle.format.specs.GeometryLaws.{pointed-on, sector-other, sector-same, Fu
 use Rattle.format.specs.Layout.{freeCountPlace, usedCountPlace, linkPlace, inUsePlace, system, freeCount, usedCount, Slot, emptySlot, inUse, lengthOf, slotsOf, linkBytes, linkOf, freePointer, firstOf, fileChain}
 use Rattle.format.specs.ChainLaws.{Chain, SameLink, chain-frame, chain-join}
 use Rattle.format.specs.Effects.{withSlot, withLink, systemWrite, deleteWrites}
-use Rattle.format.specs.History.{File}
+use Rattle.history.specs.History.{File}
 use Rattle.soundness.specs.Counts.{OneOf, once-parts}
 use Rattle.soundness.specs.Places.{Place}
 use Rattle.soundness.specs.NameCounts.{called, called-join, called-at}

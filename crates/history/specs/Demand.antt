@@ -14,8 +14,8 @@ use Rattle.format.specs.GeometryLaws.{ImageOf, geometry-ok, cut-full, cut-flat,
 use Rattle.format.specs.Layout.{slotsEach, slotsOf, directory, free, slots, entries}
 use Rattle.format.specs.Check.{broken}
 use Rattle.format.specs.Calls.{saveOn, deleteOn, renameOn, protectOn, asked, changed, answerBy, CheckAnswer, checkAnswerBy, afterCheck, afterSave, afterDelete, afterRename, afterProtect}
-use Rattle.format.specs.History.{Command, list, read, save, delete, rename, protect, check, view, step, run, Book, accepted, entered, openingBook, bookAfter, sumDirectory}
-use Rattle.format.specs.Demand3.{isSound, Handed, AllHanded, Moment, Demand3}
+use Rattle.history.specs.History.{Command, list, read, save, delete, rename, protect, check, view, step, run, Book, accepted, entered, openingBook, bookAfter, sumDirectory}
+use Rattle.history.specs.Demand3.{isSound, Handed, AllHanded, Moment, Demand3}
 use Rattle.soundness.specs.Slots.{inUse-many, slots-many}
 use Rattle.soundness.specs.Filed.{entriesOf}
 use Rattle.soundness.specs.Laid.{sound-laid}

@@ -21,8 +21,8 @@ use Rattle.format.specs.ChainLaws.{chain-ends}
 use Rattle.format.specs.Modules.{Module, allowed, sectorsFor}
 use Rattle.format.specs.Effects.{isSome, growth, needed, saveWrites, reading}
 use Rattle.format.specs.Calls.{readOn, saveBeforeOn, saveOn, asked, changed, answerBy, checkAnswerBy, readAnswerBy, afterCheck, afterRead, afterSave}
-use Rattle.format.specs.History.{File, Book, named, says, sumDirectory, sumFiles, sumFree, sumNeed, saveSays}
-use Rattle.format.specs.Demand3.{allEnd, Moment}
+use Rattle.history.specs.History.{File, Book, named, says, sumDirectory, sumFiles, sumFree, sumNeed, saveSays}
+use Rattle.history.specs.Demand3.{allEnd, Moment}
 use Rattle.soundness.specs.NameCounts.{ofName}
 use Rattle.soundness.specs.Slots.{inUse-all, SlotOf, slots-of}
 use Rattle.soundness.specs.Filed.{GoodEntry, chain-few, entriesOf, chainsOf, dir-few, directory-is, entries-are}

@@ -18,7 +18,7 @@ use Rattle.format.specs.Layout.{freeCount, usedCount, Slot, linkOf, directory, 
 use Rattle.format.specs.Modules.{Module, sectorsFor, bodies, plain}
 use Rattle.format.specs.ModuleLaws.{sectors-fit, bodies-254, bodies-many}
 use Rattle.format.specs.Effects.{isSome, chained, systemWrite, entryBytes, growth, entryWrites, saveWrites}
-use Rattle.format.specs.History.{File}
+use Rattle.history.specs.History.{File}
 use Rattle.soundness.specs.NameCounts.{called}
 use Rattle.soundness.specs.Filed.{entriesOf, directory-is}
 use Rattle.soundness.specs.Laid.{Laid, free-is}

@@ -13,7 +13,7 @@ use Rattle.format.specs.Layout.{Slot, nameOf, lengthOf, linkOf, directoryPointe
 use Rattle.format.specs.ChainLaws.{Chain, chain-met, SameLink, chain-frame}
 use Rattle.format.specs.Modules.{plain}
 use Rattle.format.specs.Effects.{body, entryBytes, reading}
-use Rattle.format.specs.History.{File}
+use Rattle.history.specs.History.{File}
 use Rattle.soundness.specs.Counts.{last-of, once-parts}
 use Rattle.soundness.specs.NameCounts.{equal, unequal, same-or-not, called, called-none, called-join, called-at, called-here, called-past}
 use Rattle.soundness.specs.Filed.{GoodEntry, GoodChain, entriesOf, chainsOf, Counted}

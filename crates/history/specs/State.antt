@@ -20,7 +20,7 @@ use Rattle.format.specs.ModuleLaws.{plain-bodies}
 use Rattle.format.specs.Effects.{isSome, slotWrite, growth, needed, saveWrites, deleteWrites, reading}
 use Rattle.format.specs.Calls.{saveOn, deleteOn, renameOn, protectOn}
 use Rattle.format.specs.CallLaws.{save-ok, delete-ok, rename-ok, protect-ok}
-use Rattle.format.specs.History.{save, delete, rename, protect, File, Book, standing, named, nineOf, renamed, accepted, sumDirectory}
+use Rattle.history.specs.History.{save, delete, rename, protect, File, Book, standing, named, nineOf, renamed, accepted, sumDirectory}
 use Rattle.soundness.specs.Counts.{filter-parts}
 use Rattle.soundness.specs.NameCounts.{true-same, called}
 use Rattle.soundness.specs.Filed.{entriesOf}
