@@ -1,0 +1,154 @@
+/*
+ * The main job on a disc: make a blank one, save a sheet on it, list it, read
+ * the sheet back, check the disc. Every step says what happened; a refused one
+ * says why and what to do.
+ */
+#include <stdio.h>
+#include <stdlib.h>
+#include <string.h>
+
+#include "tandos.h"
+
+#define TRACKS 40
+#define SHEET_LENGTH 300
+
+static uint8_t image[TANDOS_IMAGE_SIZE(TRACKS)];
+static const char name[] = "THU.PCS";
+
+/* C lends a name as its bytes and their number, without the zero at the end. */
+static const uint8_t *bytes_of(const char *text)
+{
+    return (const uint8_t *)text;
+}
+
+static void say_refused(const char *step, uint32_t number)
+{
+    printf("%s was refused with %lu, %s. %s\n", step, (unsigned long)number,
+           tandos_refusal_name(number), tandos_refusal_text(number));
+}
+
+static void stop_if_refused(const char *step, uint32_t number)
+{
+    if (number == TANDOS_DONE)
+        return;
+    say_refused(step, number);
+    exit(EXIT_FAILURE);
+}
+
+static unsigned word_at(const uint8_t *record, size_t at)
+{
+    return record[at] + 256u * record[at + 1];
+}
+
+static void make_disc(void)
+{
+    const char *disc_name = "PIECES";
+
+    stop_if_refused("Making a blank disc",
+                    tandos_blank(image, sizeof image, bytes_of(disc_name),
+                                 strlen(disc_name)));
+    printf("Made a blank disc of %d tracks, named %s.\n", TRACKS, disc_name);
+}
+
+static uint32_t save_sheet(const uint8_t *sheet)
+{
+    return tandos_save(image, sizeof image, bytes_of(name), strlen(name),
+                       0, 0x2000, 0x2000, sheet, SHEET_LENGTH);
+}
+
+/* A name that stands already: refused, and the disc stays as it was. */
+static void save_again(const uint8_t *sheet)
+{
+    uint32_t number = save_sheet(sheet);
+
+    if (number == TANDOS_DONE) {
+        printf("Saving the same name again was NOT refused.\n");
+        exit(EXIT_FAILURE);
+    }
+    say_refused("Saving the same name again", number);
+}
+
+/* The six of a stored name, or the three of its extension, without padding. */
+static void print_padded(const uint8_t *field, int size)
+{
+    while (size > 0 && field[size - 1] == ' ')
+        size--;
+    printf("%.*s", size, (const char *)field);
+}
+
+static void print_file(const uint8_t *record)
+{
+    int is_protected = record[12] == TANDOS_ATTRIBUTE_PROTECTED;
+
+    printf("  ");
+    print_padded(record + 1, 6);
+    if (record[7] != ' ')
+        putchar('.');
+    print_padded(record + 7, 3);
+    printf(": %u sectors, %s\n", word_at(record, 10),
+           is_protected ? "protected" : "not protected");
+}
+
+static void list_disc(void)
+{
+    static uint8_t records[TANDOS_LIST_MAX];
+    const uint8_t *record = records + TANDOS_DISC_RECORD_SIZE;
+    tandos_listed listed =
+        tandos_list(image, sizeof image, records, sizeof records);
+
+    stop_if_refused("Listing the disc", listed.number);
+    printf("The disc ");
+    print_padded(records + 1, TANDOS_NAME_SIZE);
+    printf(" has %u sectors free and %u in files:\n", word_at(records, 10),
+           word_at(records, 12));
+    while (*record == TANDOS_RECORD_FILE) {
+        print_file(record);
+        record += TANDOS_FILE_RECORD_SIZE;
+    }
+}
+
+static void read_sheet(const uint8_t *sheet)
+{
+    static uint8_t buffer[TANDOS_SHEET_MAX];
+    tandos_reading reading =
+        tandos_read(image, sizeof image, bytes_of(name), strlen(name),
+                    buffer, sizeof buffer);
+    int is_same;
+
+    stop_if_refused("Reading the sheet", reading.number);
+    is_same = reading.length == SHEET_LENGTH &&
+              memcmp(buffer, sheet, SHEET_LENGTH) == 0;
+    printf("Read %s back: %lu bytes for addresses %04lX to %04lX, %s.\n", name,
+           (unsigned long)reading.length, (unsigned long)reading.start,
+           (unsigned long)reading.end,
+           is_same ? "the same as were saved" : "NOT those that were saved");
+    if (!is_same)
+        exit(EXIT_FAILURE);
+}
+
+static void check_disc(void)
+{
+    tandos_checked checked = tandos_check(image, sizeof image);
+
+    stop_if_refused("Checking the disc", checked.number);
+    printf("Checked the disc. %s\n", tandos_rule_text(checked.rule));
+    if (checked.rule != 0)
+        exit(EXIT_FAILURE);
+}
+
+int main(void)
+{
+    uint8_t sheet[SHEET_LENGTH];
+    size_t i;
+
+    for (i = 0; i < SHEET_LENGTH; i++)
+        sheet[i] = (uint8_t)(i % 100);
+    make_disc();
+    stop_if_refused("Saving the sheet", save_sheet(sheet));
+    printf("Saved the sheet %s of %d bytes.\n", name, SHEET_LENGTH);
+    list_disc();
+    read_sheet(sheet);
+    check_disc();
+    save_again(sheet);
+    return EXIT_SUCCESS;
+}

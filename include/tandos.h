@@ -1,0 +1,320 @@
+/*
+ * tandos.h: TANDOS 65 disc images, for C99 and C++.
+ *
+ * The library lists, reads, saves, deletes, renames and protects the files of
+ * a disc image, checks it, makes a blank disc and shows a sector. The calls of
+ * the first part are written in Rattle and proved: for any bytes handed in,
+ * each ends, stays inside the memory lent to it, and answers and leaves
+ * exactly what is said below. The few functions of the second part are
+ * written in C, tested, not proved.
+ *
+ * THE DISC. An image is one side of a single density disc: T tracks (1 to 80),
+ * numbered from 0, of 10 sectors, numbered 1 to 10, of 256 bytes. Sector s of
+ * track t, written t/s, is sector number 10 * t + s - 1 and starts at 256
+ * times that number. 0/1 is the system sector. On a sound disc every other
+ * sector is in exactly one place: in the directory, in one file, or in the free
+ * chain.
+ *
+ * MEMORY. All memory is the caller's. The image is lent for the time of a call
+ * and changed in place; calls keep no state, so different images may be used
+ * from different threads at once.
+ *
+ *  - Nothing that a call may write (the image of save, delete, rename, protect
+ *    and blank; the buffer of list and read) may overlap anything else lent to
+ *    that call. The caller must see to that: no call can test it.
+ *  - Each pointer is followed by the number of bytes lent there. A pointer may
+ *    be NULL only where that number is 0.
+ *
+ * ANSWERS. A call answers TANDOS_DONE or the number of a refusal: the first
+ * that applies, in the order in which the call's comment has them. With a
+ * refusal every other number of the answer is 0 and all lent memory stays as
+ * it was. Numbers are never cut to fewer bits: page 256 is out of range,
+ * protect with 256 is on.
+ *
+ * NAMES. A file name as typed is 1 to 6 of A-Z and 0-9, then nothing, or a dot
+ * and 1 to 3 of the same: "THU.PCS". It is stored as nine bytes, six of name
+ * and three of extension, each padded with spaces on the right, without the
+ * dot: "THU   PCS". A disc name is 1 to 9 of A-Z and 0-9, stored as nine bytes
+ * padded likewise. Names are lent as pointer and length; no zero byte ends
+ * them.
+ *
+ * FILES. A file holds a load module: a page (0 to 7), a start and a transfer
+ * address, and a sheet of L bytes, 1 <= L <= 65,536 - start. The end address
+ * is start + L - 1. It takes 1 sector for L <= 245, otherwise
+ * 1 + (L - 245) / 253 rounded up.
+ */
+#ifndef TANDOS_H
+#define TANDOS_H
+
+#include <stddef.h>
+#include <stdint.h>
+
+#ifdef __cplusplus
+extern "C" {
+#endif
+
+/* ---- Sizes, in bytes unless said otherwise ---- */
+
+#define TANDOS_SECTOR_SIZE 256
+#define TANDOS_SECTORS_PER_TRACK 10
+#define TANDOS_TRACK_SIZE 2560
+#define TANDOS_MAX_TRACKS 80
+
+/* The length of an image of 1 to TANDOS_MAX_TRACKS tracks. */
+#define TANDOS_IMAGE_SIZE(tracks) ((size_t)(tracks) * TANDOS_TRACK_SIZE)
+
+/* A stored name, of a file or a disc. */
+#define TANDOS_NAME_SIZE 9
+
+/* A link stands in front of the bytes that a sector view shows. */
+#define TANDOS_LINK_SIZE 2
+#define TANDOS_VIEW_SIZE 254
+
+/* The longest sheet. A read with a buffer of this size never gives SHORT. */
+#define TANDOS_SHEET_MAX 65536
+
+/*
+ * The most files of a sound disc. Of its at most 800 sectors one is the system
+ * sector; F files take at least F sectors, and the directory one for every 15
+ * of them. So F + F/15 rounded up is at most 799, which 749 meets (749 + 50)
+ * and 750 does not.
+ */
+#define TANDOS_MAX_FILES 749
+
+/* The records of a list: one of the disc, one for each file, the end. */
+#define TANDOS_DISC_RECORD_SIZE 14
+#define TANDOS_FILE_RECORD_SIZE 13
+#define TANDOS_END_RECORD_SIZE 1
+
+/* The length of the list of a disc with so many files. */
+#define TANDOS_LIST_SIZE(files) \
+    (TANDOS_DISC_RECORD_SIZE + (size_t)(files) * TANDOS_FILE_RECORD_SIZE + \
+     TANDOS_END_RECORD_SIZE)
+
+/* The longest list (9,752). A list with a buffer of this size never gives
+ * SHORT. */
+#define TANDOS_LIST_MAX TANDOS_LIST_SIZE(TANDOS_MAX_FILES)
+
+/* ---- Numbers ---- */
+
+/* What a call answers: 0, or the number of a refusal. */
+enum tandos_refusal {
+    TANDOS_DONE = 0,      /* nothing was refused */
+    TANDOS_SIZE = 1,      /* image length isn't 2,560 times 1 to 80 */
+    TANDOS_NAME = 2,      /* a file or disc name breaks its rule */
+    TANDOS_UNSOUND = 3,   /* the check finds a broken rule */
+    TANDOS_ABSENT = 4,    /* no such file */
+    TANDOS_TAKEN = 5,     /* the new name stands already */
+    TANDOS_PROTECTED = 6, /* delete or rename of a protected file */
+    TANDOS_MODULE = 7,    /* page or L out of range */
+    TANDOS_ROOM = 8,      /* the free chain is shorter than the save needs */
+    TANDOS_NOT_PLAIN = 9, /* links apart, the file's sectors aren't byte for
+                             byte those of any load module */
+    TANDOS_SHORT = 10,    /* the lent buffer can't hold the answer */
+    TANDOS_NO_SECTOR = 11 /* view of a sector not on the disc */
+};
+
+/* The first byte of each record of a list. */
+enum tandos_record {
+    TANDOS_RECORD_END = 0,
+    TANDOS_RECORD_DISC = 1,
+    TANDOS_RECORD_FILE = 2
+};
+
+/* The last byte of a file's record in a list. */
+enum tandos_attribute {
+    TANDOS_ATTRIBUTE_NONE = 0x00,
+    TANDOS_ATTRIBUTE_PROTECTED = 0x80
+};
+
+/* ---- Answers of more than one number ---- */
+
+typedef struct {
+    uint32_t number; /* TANDOS_DONE or a refusal */
+    uint32_t rule;   /* the lowest broken rule, 1 to 8; 0: the image is sound */
+} tandos_checked;
+
+typedef struct {
+    uint32_t number; /* TANDOS_DONE or a refusal */
+    uint32_t length; /* of the records at the front of the buffer */
+} tandos_listed;
+
+typedef struct {
+    uint32_t number;   /* TANDOS_DONE or a refusal */
+    uint32_t page;     /* 0 to 7 */
+    uint32_t start;    /* address of the first byte */
+    uint32_t end;      /* address of the last byte, start + length - 1 */
+    uint32_t transfer; /* any 16 bits */
+    uint32_t length;   /* L, the bytes at the front of the buffer */
+} tandos_reading;
+
+/* ---- The proved calls ---- */
+
+/*
+ * Checks an image. On an image of a right size the number is TANDOS_DONE, and
+ * `rule` is the lowest-numbered rule that is broken, or 0 where the image is
+ * sound. "On the disc" means track below T, sector 1 to 10.
+ *
+ *  1. The directory pointer is on the disc and isn't 0/1.
+ *  2. The directory chain meets only sectors on the disc, ends, meets none
+ *     twice and never 0/1.
+ *  3. In each directory sector, byte 2 is the number of slots that aren't
+ *     free; each entry has a padded legal name, length at least 1, and the
+ *     attribute $00 or $80.
+ *  4. No two entries have the same nine name bytes.
+ *  5. Each file's chain starts at its first sector, has exactly its length, is
+ *     on the disc, has its end link at the entry's last sector and nowhere
+ *     before, and meets no sector of 0/1, the directory or another place in
+ *     any file.
+ *  6. The free chain (none if the pointer's sector byte is 0) is on the disc,
+ *     ends, meets no sector twice, nor 0/1, nor one met by the directory or a
+ *     file, and has the length in the free count.
+ *  7. The used count is the sum of the file lengths.
+ *  8. Every sector but 0/1 has been met by the directory, a file or the free
+ *     chain.
+ *
+ * Changes nothing. Refusals:
+ *   TANDOS_SIZE      image_len isn't 2,560 times 1 to 80 (rule is 0).
+ */
+tandos_checked tandos_check(const uint8_t *image, size_t image_len);
+
+/*
+ * Lists a disc: writes records to the front of the buffer and gives their
+ * length. The rest of the buffer and the image stay. Words stand low byte
+ * first.
+ *
+ *   disc, once: 1, nine bytes of disc name, free count (2), used count (2)
+ *   file, for each entry in directory order:
+ *               2, nine bytes of stored name, length in sectors (2), attribute
+ *   end, once:  0
+ *
+ * TANDOS_LIST_MAX bytes of buffer are always enough. Refusals:
+ *   TANDOS_SIZE      image_len isn't 2,560 times 1 to 80.
+ *   TANDOS_UNSOUND   the check finds a broken rule.
+ *   TANDOS_SHORT     buffer_len is less than the length of the records.
+ */
+tandos_listed tandos_list(const uint8_t *image, size_t image_len,
+                          uint8_t *buffer, size_t buffer_len);
+
+/*
+ * Reads a file: gives its page, start, end, transfer and length L, and its L
+ * bytes at the front of the buffer. The rest of the buffer and the image stay.
+ * TANDOS_SHEET_MAX bytes of buffer are always enough. Refusals:
+ *   TANDOS_SIZE      image_len isn't 2,560 times 1 to 80.
+ *   TANDOS_NAME      the name is no file name as typed.
+ *   TANDOS_UNSOUND   the check finds a broken rule.
+ *   TANDOS_ABSENT    no file has this name.
+ *   TANDOS_NOT_PLAIN links apart, the file's sectors aren't byte for byte
+ *                    those of any load module.
+ *   TANDOS_SHORT     buffer_len is less than L.
+ */
+tandos_reading tandos_read(const uint8_t *image, size_t image_len,
+                           const uint8_t *name, size_t name_len,
+                           uint8_t *buffer, size_t buffer_len);
+
+/*
+ * Saves a sheet as a new, unprotected file. It takes sectors from the head of
+ * the free chain, in order, as many as the load module takes, and one more
+ * after those for the directory if no slot is free there. The entry goes to
+ * the first free slot in directory order. Free pointer and both counts follow.
+ * Refusals:
+ *   TANDOS_SIZE      image_len isn't 2,560 times 1 to 80.
+ *   TANDOS_NAME      the name is no file name as typed.
+ *   TANDOS_MODULE    page is above 7, or sheet_len is 0 or above
+ *                    65,536 - start.
+ *   TANDOS_UNSOUND   the check finds a broken rule.
+ *   TANDOS_TAKEN     a file has this name already.
+ *   TANDOS_ROOM      the free chain is shorter than the save needs, the
+ *                    directory's sector counted.
+ */
+uint32_t tandos_save(uint8_t *image, size_t image_len,
+                     const uint8_t *name, size_t name_len,
+                     uint32_t page, uint16_t start, uint16_t transfer,
+                     const uint8_t *sheet, size_t sheet_len);
+
+/*
+ * Deletes a file: clears its slot and puts its sectors, in order, in front of
+ * the free chain. Both counts follow. The sectors keep their bytes, but for the
+ * last one's link; a directory sector that is emptied stays. Refusals:
+ *   TANDOS_SIZE      image_len isn't 2,560 times 1 to 80.
+ *   TANDOS_NAME      the name is no file name as typed.
+ *   TANDOS_UNSOUND   the check finds a broken rule.
+ *   TANDOS_ABSENT    no file has this name.
+ *   TANDOS_PROTECTED the file is protected.
+ */
+uint32_t tandos_delete(uint8_t *image, size_t image_len,
+                       const uint8_t *name, size_t name_len);
+
+/*
+ * Renames a file: changes the nine name bytes of its entry. Refusals:
+ *   TANDOS_SIZE      image_len isn't 2,560 times 1 to 80.
+ *   TANDOS_NAME      either name is no file name as typed.
+ *   TANDOS_UNSOUND   the check finds a broken rule.
+ *   TANDOS_ABSENT    no file has the old name.
+ *   TANDOS_PROTECTED the file is protected.
+ *   TANDOS_TAKEN     a file has the new name, be it the file itself.
+ */
+uint32_t tandos_rename(uint8_t *image, size_t image_len,
+                       const uint8_t *old_name, size_t old_len,
+                       const uint8_t *new_name, size_t new_len);
+
+/*
+ * Protects a file (on is not 0) or lifts its protection (on is 0): writes $80
+ * or $00 to the attribute of its entry. Asking for what already stands is done,
+ * with nothing changed. Refusals:
+ *   TANDOS_SIZE      image_len isn't 2,560 times 1 to 80.
+ *   TANDOS_NAME      the name is no file name as typed.
+ *   TANDOS_UNSOUND   the check finds a broken rule.
+ *   TANDOS_ABSENT    no file has this name.
+ */
+uint32_t tandos_protect(uint8_t *image, size_t image_len,
+                        const uint8_t *name, size_t name_len, uint32_t on);
+
+/*
+ * Makes the image a blank data disc of this name, whatever it was before: a
+ * directory of one sector at 0/4 with no entry, and every sector but that and
+ * 0/1 in the free chain, which begins at 0/7. Free count 10 * T - 2, used count
+ * 0. Refusals:
+ *   TANDOS_SIZE      image_len isn't 2,560 times 1 to 80.
+ *   TANDOS_NAME      the name is no disc name.
+ */
+uint32_t tandos_blank(uint8_t *image, size_t image_len,
+                      const uint8_t *name, size_t name_len);
+
+/*
+ * The refusal number of a sector view of the same arguments. The image need
+ * not be sound. Changes nothing. Refusals:
+ *   TANDOS_SIZE      image_len isn't 2,560 times 1 to 80.
+ *   TANDOS_NO_SECTOR track isn't below T, or sector isn't 1 to 10.
+ */
+uint32_t tandos_view_number(const uint8_t *image, size_t image_len,
+                            uint32_t track, uint32_t sector);
+
+/* ---- Written in C, tested, not proved ---- */
+
+/*
+ * The sector view: the TANDOS_VIEW_SIZE bytes after a sector's link (bytes 2
+ * to 255, for 0/1 as well), where they lie in the image, not a copy: they
+ * change with the image and last as long as it does. NULL where
+ * tandos_view_number with the same arguments isn't 0.
+ */
+const uint8_t *tandos_view(const uint8_t *image, size_t image_len,
+                           uint32_t track, uint32_t sector);
+
+/* The name of a number that a call answers: "DONE", "SIZE", .. "NO SECTOR".
+ * "?" for any other number. */
+const char *tandos_refusal_name(uint32_t number);
+
+/* One sentence that says what is wrong and what to do. For a number that no
+ * call answers it says so. */
+const char *tandos_refusal_text(uint32_t number);
+
+/* One sentence on a rule of the check: what is wrong on the disc, or for 0 that
+ * it is sound. For a number that is no rule it says so. */
+const char *tandos_rule_text(uint32_t rule);
+
+#ifdef __cplusplus
+}
+#endif
+
+#endif

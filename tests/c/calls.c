@@ -1,0 +1,204 @@
+#include "calls.h"
+
+#include <string.h>
+
+#include "lent.h"
+#include "report.h"
+
+uint8_t answer[BUFFER_MAX];
+
+struct text text(const char *characters)
+{
+    return bytes((const uint8_t *)characters, strlen(characters));
+}
+
+struct text bytes(const uint8_t *bytes, size_t length)
+{
+    struct text text;
+
+    text.bytes = bytes;
+    text.length = length;
+    return text;
+}
+
+static struct lent lend_disc(const struct disc *disc)
+{
+    return lend(disc->bytes, disc->length);
+}
+
+static struct lent lend_text(struct text text)
+{
+    return lend(text.bytes, text.length);
+}
+
+/* Takes the image over that a call left, and with a refusal expects it kept. */
+static void take_back(const char *what, struct disc *disc, struct lent *image,
+                      uint32_t number)
+{
+    if (disc->length > 0)
+        memcpy(disc->bytes, image->bytes, disc->length);
+    expect_kept_beyond(number == TANDOS_DONE ? disc->length : 0, what, image);
+}
+
+/* The buffer's bytes before the call: neither zeros nor what a call writes. */
+static struct lent lend_buffer(size_t length)
+{
+    size_t i;
+
+    for (i = 0; i < BUFFER_MAX; i++)
+        answer[i] = (uint8_t)(0x5A + 3 * i);
+    return lend(answer, length);
+}
+
+static void take_buffer(const char *what, struct lent *buffer, size_t written)
+{
+    memcpy(answer, buffer->bytes, buffer->length);
+    expect_kept_beyond(written, what, buffer);
+}
+
+tandos_checked try_check(const struct disc *disc)
+{
+    struct lent image = lend_disc(disc);
+    tandos_checked checked = tandos_check(image.bytes, image.length);
+
+    expect_kept_beyond(0, "image after check", &image);
+    if (checked.number != TANDOS_DONE)
+        EXPECT_NUMBER(0, checked.rule);
+    return checked;
+}
+
+tandos_listed try_list(const struct disc *disc, size_t buffer_len)
+{
+    struct lent image = lend_disc(disc);
+    struct lent buffer = lend_buffer(buffer_len);
+    tandos_listed listed = tandos_list(image.bytes, image.length, buffer.bytes,
+                                       buffer.length);
+
+    expect_kept_beyond(0, "image after list", &image);
+    take_buffer("buffer after list", &buffer,
+                listed.number == TANDOS_DONE ? listed.length : 0);
+    if (listed.number != TANDOS_DONE)
+        EXPECT_NUMBER(0, listed.length);
+    return listed;
+}
+
+static void expect_zeros(const tandos_reading *reading)
+{
+    EXPECT_NUMBER(0, reading->page);
+    EXPECT_NUMBER(0, reading->start);
+    EXPECT_NUMBER(0, reading->end);
+    EXPECT_NUMBER(0, reading->transfer);
+    EXPECT_NUMBER(0, reading->length);
+}
+
+tandos_reading try_read(const struct disc *disc, struct text name,
+                        size_t buffer_len)
+{
+    struct lent image = lend_disc(disc);
+    struct lent typed = lend_text(name);
+    struct lent buffer = lend_buffer(buffer_len);
+    tandos_reading reading =
+        tandos_read(image.bytes, image.length, typed.bytes, typed.length,
+                    buffer.bytes, buffer.length);
+
+    expect_kept_beyond(0, "image after read", &image);
+    expect_kept_beyond(0, "name after read", &typed);
+    take_buffer("buffer after read", &buffer,
+                reading.number == TANDOS_DONE ? reading.length : 0);
+    if (reading.number != TANDOS_DONE)
+        expect_zeros(&reading);
+    return reading;
+}
+
+uint32_t try_save(struct disc *disc, struct text name, uint32_t page,
+                  uint16_t start, uint16_t transfer, struct text sheet)
+{
+    struct lent image = lend_disc(disc);
+    struct lent typed = lend_text(name);
+    struct lent module = lend_text(sheet);
+    uint32_t number =
+        tandos_save(image.bytes, image.length, typed.bytes, typed.length,
+                    page, start, transfer, module.bytes, module.length);
+
+    take_back("image after save", disc, &image, number);
+    expect_kept_beyond(0, "name after save", &typed);
+    expect_kept_beyond(0, "sheet after save", &module);
+    return number;
+}
+
+uint32_t try_delete(struct disc *disc, struct text name)
+{
+    struct lent image = lend_disc(disc);
+    struct lent typed = lend_text(name);
+    uint32_t number = tandos_delete(image.bytes, image.length, typed.bytes,
+                                    typed.length);
+
+    take_back("image after delete", disc, &image, number);
+    expect_kept_beyond(0, "name after delete", &typed);
+    return number;
+}
+
+uint32_t try_rename(struct disc *disc, struct text old_name,
+                    struct text new_name)
+{
+    struct lent image = lend_disc(disc);
+    struct lent old_typed = lend_text(old_name);
+    struct lent new_typed = lend_text(new_name);
+    uint32_t number =
+        tandos_rename(image.bytes, image.length, old_typed.bytes,
+                      old_typed.length, new_typed.bytes, new_typed.length);
+
+    take_back("image after rename", disc, &image, number);
+    expect_kept_beyond(0, "old name after rename", &old_typed);
+    expect_kept_beyond(0, "new name after rename", &new_typed);
+    return number;
+}
+
+uint32_t try_protect(struct disc *disc, struct text name, uint32_t on)
+{
+    struct lent image = lend_disc(disc);
+    struct lent typed = lend_text(name);
+    uint32_t number = tandos_protect(image.bytes, image.length, typed.bytes,
+                                     typed.length, on);
+
+    take_back("image after protect", disc, &image, number);
+    expect_kept_beyond(0, "name after protect", &typed);
+    return number;
+}
+
+uint32_t try_blank(struct disc *disc, struct text name)
+{
+    struct lent image = lend_disc(disc);
+    struct lent typed = lend_text(name);
+    uint32_t number = tandos_blank(image.bytes, image.length, typed.bytes,
+                                   typed.length);
+
+    take_back("image after blank", disc, &image, number);
+    expect_kept_beyond(0, "name after blank", &typed);
+    return number;
+}
+
+uint32_t try_view_number(const struct disc *disc, uint32_t track,
+                         uint32_t sector)
+{
+    struct lent image = lend_disc(disc);
+    uint32_t number = tandos_view_number(image.bytes, image.length, track,
+                                         sector);
+    const uint8_t *view = tandos_view(image.bytes, image.length, track, sector);
+
+    EXPECT_NUMBER(number == TANDOS_DONE, view != NULL);
+    expect_kept_beyond(0, "image after view", &image);
+    return number;
+}
+
+uint32_t save_at_2000(struct disc *disc, const char *name, struct text sheet)
+{
+    return try_save(disc, text(name), 0, 0x2000, 0x2000, sheet);
+}
+
+void expect_disc(const char *what, const struct disc *expected,
+                 const struct disc *found)
+{
+    EXPECT_NUMBER(expected->length, found->length);
+    expect_bytes(what, expected->bytes, found->bytes, expected->length);
+}

@@ -1,0 +1,47 @@
+/*
+ * Each call of the library on guarded copies of all that is lent to it. Beside
+ * what the tests expect, each of these expects that the guard bytes and all
+ * memory that the call may not write stay, with a refusal every lent byte, and
+ * that with a refusal the other numbers of the answer are 0.
+ */
+#ifndef CALLS_H
+#define CALLS_H
+
+#include "discs.h"
+#include "tandos.h"
+
+/* A name, sheet or buffer to lend. */
+struct text {
+    const uint8_t *bytes;
+    size_t length;
+};
+
+struct text text(const char *characters);
+struct text bytes(const uint8_t *bytes, size_t length);
+
+/* What a list or read left at the front of a buffer. */
+#define BUFFER_MAX (TANDOS_SHEET_MAX + 16)
+extern uint8_t answer[BUFFER_MAX];
+
+tandos_checked try_check(const struct disc *disc);
+tandos_listed try_list(const struct disc *disc, size_t buffer_len);
+tandos_reading try_read(const struct disc *disc, struct text name,
+                        size_t buffer_len);
+uint32_t try_save(struct disc *disc, struct text name, uint32_t page,
+                  uint16_t start, uint16_t transfer, struct text sheet);
+uint32_t try_delete(struct disc *disc, struct text name);
+uint32_t try_rename(struct disc *disc, struct text old_name,
+                    struct text new_name);
+uint32_t try_protect(struct disc *disc, struct text name, uint32_t on);
+uint32_t try_blank(struct disc *disc, struct text name);
+uint32_t try_view_number(const struct disc *disc, uint32_t track,
+                         uint32_t sector);
+
+/* A save on page 0 with start and transfer $2000. */
+uint32_t save_at_2000(struct disc *disc, const char *name, struct text sheet);
+
+/* Expects an image byte for byte, and no other length. */
+void expect_disc(const char *what, const struct disc *expected,
+                 const struct disc *found);
+
+#endif

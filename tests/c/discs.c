@@ -1,0 +1,203 @@
+#include "discs.h"
+
+#include <stdio.h>
+#include <string.h>
+
+uint8_t sheet[SHEET_BYTES];
+
+void make_sheet(void)
+{
+    size_t i;
+
+    for (i = 0; i < SHEET_BYTES; i++)
+        sheet[i] = (uint8_t)(1 + i % 251);
+}
+
+struct place place(unsigned track, unsigned sector)
+{
+    struct place place;
+
+    place.track = track;
+    place.sector = sector;
+    return place;
+}
+
+struct place free_place(unsigned k)
+{
+    static const unsigned passed[] = { 1, 4, 7, 10, 3, 6, 9, 2, 5, 8 };
+
+    /* 0/1 and 0/4 come before the free chain. */
+    return place((k + 2) / 10, passed[(k + 2) % 10]);
+}
+
+uint8_t *at(struct disc *disc, struct place place, unsigned byte)
+{
+    return disc->bytes + 256 * (10 * place.track + place.sector - 1) + byte;
+}
+
+static void put_word(uint8_t *to, unsigned word)
+{
+    to[0] = (uint8_t)(word % 256);
+    to[1] = (uint8_t)(word / 256);
+}
+
+/* Sector, then track: the order in the system sector and in entries. */
+static void put_pair(uint8_t *to, struct place place)
+{
+    to[0] = (uint8_t)place.sector;
+    to[1] = (uint8_t)place.track;
+}
+
+void put_link(struct disc *disc, struct place from, struct place to)
+{
+    *at(disc, from, 0) = (uint8_t)to.track;
+    *at(disc, from, 1) = (uint8_t)to.sector;
+}
+
+void put_free_pointer(struct disc *disc, struct place to)
+{
+    put_pair(disc->bytes + 0x10, to);
+}
+
+void put_counts(struct disc *disc, unsigned free_count, unsigned used_count)
+{
+    put_word(disc->bytes + 0x14, free_count);
+    put_word(disc->bytes + 0x16, used_count);
+}
+
+void put_entry(struct disc *disc, struct place directory, unsigned slot,
+               const char *stored_name, unsigned length, struct place first,
+               struct place last)
+{
+    uint8_t *entry = at(disc, directory, 3 + 16 * slot);
+
+    memcpy(entry, stored_name, 9);
+    put_word(entry + 9, length);
+    put_pair(entry + 11, first);
+    put_pair(entry + 13, last);
+    entry[15] = 0x00;
+    *at(disc, directory, 2) += 1;
+}
+
+struct module module_at_2000(size_t length)
+{
+    struct module module;
+
+    module.page = 0;
+    module.start = 0x2000;
+    module.transfer = 0x2000;
+    module.length = length;
+    return module;
+}
+
+static void put_header(uint8_t *to, struct module module)
+{
+    to[0] = 0xFF;
+    to[1] = (uint8_t)module.page;
+    put_word(to + 2, module.start);
+    put_word(to + 4, module.start + (unsigned)module.length - 1);
+    put_word(to + 6, module.transfer);
+}
+
+void put_module(struct disc *disc, unsigned k, struct module module)
+{
+    const uint8_t *left = sheet;
+    size_t count = module.length;
+    size_t held = count < 245 ? count : 245;
+    unsigned length_byte = 10;
+
+    put_header(at(disc, free_place(k), 2), module);
+    for (;;) {
+        uint8_t *body = at(disc, free_place(k), length_byte);
+
+        memset(body, 0, 256 - length_byte);
+        body[0] = (uint8_t)held;
+        memcpy(body + 1, left, held);
+        left += held;
+        count -= held;
+        if (count == 0)
+            break;
+        put_link(disc, free_place(k), free_place(k + 1));
+        k++;
+        held = count < 253 ? count : 253;
+        length_byte = 2;
+    }
+    put_link(disc, free_place(k), place(0, 0));
+}
+
+void make_blank(struct disc *disc, unsigned tracks, const char *name)
+{
+    unsigned free_count = 10 * tracks - 2;
+    unsigned k;
+
+    memset(disc->bytes, 0, sizeof disc->bytes);
+    disc->length = 2560 * (size_t)tracks;
+    put_free_pointer(disc, place(0, 7));
+    put_pair(disc->bytes + 0x12, place(0, 4));
+    put_counts(disc, free_count, 0);
+    memcpy(disc->bytes + 0x18, name, 9);
+    memcpy(disc->bytes + 0x40, "TANDOS 65 IMAGE 1", 17);
+    for (k = 0; k + 1 < free_count; k++)
+        put_link(disc, free_place(k), free_place(k + 1));
+}
+
+void make_pieces(struct disc *disc)
+{
+    make_blank(disc, 40, "PIECES   ");
+    put_module(disc, 0, module_at_2000(300));
+    put_entry(disc, place(0, 4), 0, "THU   PCS", 2, place(0, 7), place(0, 10));
+    put_free_pointer(disc, place(0, 3));
+    put_counts(disc, 396, 2);
+}
+
+void make_small(struct disc *disc)
+{
+    make_blank(disc, 1, "SMALL    ");
+    put_module(disc, 0, module_at_2000(245));
+    put_entry(disc, place(0, 4), 0, "A        ", 1, place(0, 7), place(0, 7));
+    put_module(disc, 1, module_at_2000(300));
+    put_entry(disc, place(0, 4), 1, "B        ", 2, place(0, 10), place(0, 3));
+    put_free_pointer(disc, place(0, 6));
+    put_counts(disc, 5, 3);
+}
+
+void make_unsound(struct disc *disc)
+{
+    make_small(disc);
+    put_counts(disc, 5, 4);
+}
+
+void make_fifteen(struct disc *disc)
+{
+    char name[10];
+    unsigned i;
+
+    make_blank(disc, 2, "FIFTEEN  ");
+    for (i = 0; i < 15; i++) {
+        sprintf(name, "F%02u      ", i % 100);
+        put_module(disc, i, module_at_2000(1));
+        put_entry(disc, place(0, 4), i, name, 1, free_place(i), free_place(i));
+    }
+    put_free_pointer(disc, place(1, 2));
+    put_counts(disc, 3, 15);
+}
+
+void make_sixteen(struct disc *disc)
+{
+    make_fifteen(disc);
+    put_module(disc, 15, module_at_2000(1));
+    put_link(disc, place(0, 4), place(1, 5));
+    put_link(disc, place(1, 5), place(0, 0));
+    put_entry(disc, place(1, 5), 0, "F15      ", 1, place(1, 2), place(1, 2));
+    put_free_pointer(disc, place(1, 8));
+    put_counts(disc, 1, 16);
+}
+
+void make_full(struct disc *disc)
+{
+    make_blank(disc, 1, "FULL     ");
+    put_module(disc, 0, module_at_2000(2016));
+    put_entry(disc, place(0, 4), 0, "X        ", 8, place(0, 7), place(0, 8));
+    put_free_pointer(disc, place(0, 0));
+    put_counts(disc, 0, 8);
+}

@@ -1,0 +1,84 @@
+/*
+ * Discs worked out by hand from the rules of the format. Nothing here calls the
+ * library: these are the bytes that the tests expect of it.
+ */
+#ifndef DISCS_H
+#define DISCS_H
+
+#include <stddef.h>
+#include <stdint.h>
+
+/* One track more than any disc has, for images that are too long. */
+#define DISC_MAX (81 * 2560)
+
+struct disc {
+    size_t length;
+    uint8_t bytes[DISC_MAX];
+};
+
+/* A sector's place on the disc, t/s. */
+struct place {
+    unsigned track, sector;
+};
+
+struct place place(unsigned track, unsigned sector);
+
+/* The k-th sector of a blank disc's free chain, from 0: 0/7, 0/10, 0/3, .. */
+struct place free_place(unsigned k);
+
+/* Byte `byte` of a sector. */
+uint8_t *at(struct disc *disc, struct place place, unsigned byte);
+
+void put_link(struct disc *disc, struct place from, struct place to);
+void put_free_pointer(struct disc *disc, struct place to);
+void put_counts(struct disc *disc, unsigned free_count, unsigned used_count);
+
+/* An entry in slot 0 to 14 of a directory sector, its name as stored. The
+ * sector's byte 2 goes up by one. */
+void put_entry(struct disc *disc, struct place directory, unsigned slot,
+               const char *stored_name, unsigned length, struct place first,
+               struct place last);
+
+/* A load module of the first `length` bytes of `sheet`. */
+struct module {
+    unsigned page, start, transfer;
+    size_t length;
+};
+
+/* Page 0, start and transfer $2000. */
+struct module module_at_2000(size_t length);
+
+/* The sectors of a module, taken from the k-th of a blank disc's free chain
+ * on. */
+void put_module(struct disc *disc, unsigned k, struct module module);
+
+/* A blank disc; `name` is padded to nine characters. */
+void make_blank(struct disc *disc, unsigned tracks, const char *name);
+
+/* 40 tracks, PIECES, with THU.PCS of 300 bytes: the rules' worked example. */
+void make_pieces(struct disc *disc);
+
+/* One track: A at 0/7 (245 bytes), B at 0/10 and 0/3 (300 bytes), and the free
+ * chain 0/6, 0/9, 0/2, 0/5, 0/8. */
+void make_small(struct disc *disc);
+
+/* The small disc with its used count one too high: rule 7 is broken. */
+void make_unsound(struct disc *disc);
+
+/* Two tracks: F00 to F14, one sector of 1 byte each, which fill the directory's
+ * 15 slots. Three sectors are free: 1/2, 1/5, 1/8. */
+void make_fifteen(struct disc *disc);
+
+/* That disc after a 16th file, F15: its sector is 1/2, the directory's new one
+ * 1/5, and 1/8 is free. */
+void make_sixteen(struct disc *disc);
+
+/* One track, full: X of 2,016 bytes in 8 sectors. */
+void make_full(struct disc *disc);
+
+/* 65,537 bytes of sheet, one more than any sheet has. */
+#define SHEET_BYTES 65537
+extern uint8_t sheet[SHEET_BYTES];
+void make_sheet(void);
+
+#endif

@@ -1,0 +1,122 @@
+/* Lists: records, directory order, buffers. */
+#include <stdio.h>
+#include <string.h>
+
+#include "calls.h"
+#include "report.h"
+#include "tests.h"
+
+static void expect_list(const struct disc *disc, const uint8_t *records,
+                        size_t length)
+{
+    tandos_listed listed = try_list(disc, length);
+
+    EXPECT_NUMBER(0, listed.number);
+    EXPECT_NUMBER(length, listed.length);
+    expect_bytes("records", records, answer, length);
+    EXPECT_NUMBER(length, try_list(disc, length + 1).length);
+    EXPECT_NUMBER(length, try_list(disc, BUFFER_MAX).length);
+    EXPECT_NUMBER(10, try_list(disc, length - 1).number);
+    EXPECT_NUMBER(10, try_list(disc, 1).number);
+    EXPECT_NUMBER(10, try_list(disc, 0).number);
+}
+
+static void worked_example(void)
+{
+    static const uint8_t records[] =
+        "\x01\x50\x49\x45\x43\x45\x53\x20\x20\x20\x8C\x01\x02\0"
+        "\x02\x54\x48\x55\x20\x20\x20\x50\x43\x53\x02\0\0";
+    struct disc disc;
+
+    make_pieces(&disc);
+    expect_list(&disc, records, 28);
+}
+
+static void blank_disc(void)
+{
+    struct disc disc;
+
+    make_blank(&disc, 80, "EMPTY    ");
+    expect_list(&disc, (const uint8_t *)"\x01""EMPTY    \x1E\x03\0\0", 15);
+}
+
+/* A protected file, and a disc name and version that no rule asks about. */
+static void as_it_stands(void)
+{
+    static const uint8_t records[] =
+        "\x01\0\xFF""a.b  \x01z\x05\0\x03\0"
+        "\x02""A        \x01\0\x80"
+        "\x02""B        \x02\0\0";
+    struct disc disc;
+
+    make_small(&disc);
+    memcpy(disc.bytes + 0x18, records + 1, 9);
+    memset(disc.bytes + 0x40, 0xEE, 32);
+    *at(&disc, place(0, 4), 3 + 15) = 0x80;
+    expect_list(&disc, records, 41);
+}
+
+/* B is saved into the second slot, C into the first: directory order. */
+static void directory_order(void)
+{
+    static const uint8_t records[] =
+        "\x01SMALL    \x05\0\x03\0"
+        "\x02""C        \x01\0\0"
+        "\x02""B        \x02\0\0";
+    struct disc disc;
+
+    make_small(&disc);
+    EXPECT_NUMBER(0, try_delete(&disc, text("A")));
+    EXPECT_NUMBER(0, save_at_2000(&disc, "C", bytes(sheet, 1)));
+    expect_list(&disc, records, 41);
+}
+
+static struct place place_of_number(unsigned number)
+{
+    return place(number / 10, number % 10 + 1);
+}
+
+/* 80 tracks in plain order: 50 directory sectors, then 749 files of a sector
+ * each, and nothing free. */
+static void make_fullest(struct disc *disc)
+{
+    char name[10];
+    unsigned i;
+
+    make_blank(disc, 80, "FULLEST  ");
+    memset(disc->bytes + 256, 0, disc->length - 256);
+    put_free_pointer(disc, place(0, 0));
+    put_counts(disc, 0, 749);
+    disc->bytes[0x12] = 2;
+    for (i = 1; i < 50; i++)
+        put_link(disc, place_of_number(i), place_of_number(i + 1));
+    for (i = 0; i < 749; i++) {
+        sprintf(name, "F%03u     ", i % 1000);
+        put_entry(disc, place_of_number(1 + i / 15), i % 15, name, 1,
+                  place_of_number(51 + i), place_of_number(51 + i));
+    }
+}
+
+static void longest_list(void)
+{
+    static uint8_t records[9752];
+    struct disc disc;
+    unsigned i;
+
+    make_fullest(&disc);
+    EXPECT_NUMBER(9752, TANDOS_LIST_MAX);
+    memcpy(records, "\x01""FULLEST  \0\0\xED\x02", 14);
+    for (i = 0; i < 749; i++)
+        sprintf((char *)records + 14 + 13 * i, "\x02""F%03u     \x01%c", i, 0);
+    records[9751] = 0;
+    expect_list(&disc, records, 9752);
+}
+
+void test_list(void)
+{
+    worked_example();
+    blank_disc();
+    as_it_stands();
+    directory_order();
+    longest_list();
+}

@@ -1,0 +1,91 @@
+/* Image lengths that fit no disc, and memory that is not lent at all. */
+#include <string.h>
+
+#include "calls.h"
+#include "report.h"
+#include "tests.h"
+
+static void refused_for_size(struct disc *disc)
+{
+    EXPECT_NUMBER(1, try_check(disc).number);
+    EXPECT_NUMBER(1, try_list(disc, 9752).number);
+    EXPECT_NUMBER(1, try_read(disc, text("A"), 245).number);
+    EXPECT_NUMBER(1, try_save(disc, text("C"), 0, 0, 0, bytes(sheet, 1)));
+    EXPECT_NUMBER(1, try_delete(disc, text("A")));
+    EXPECT_NUMBER(1, try_rename(disc, text("A"), text("C")));
+    EXPECT_NUMBER(1, try_protect(disc, text("A"), 1));
+    EXPECT_NUMBER(1, try_blank(disc, text("DISC")));
+    EXPECT_NUMBER(1, try_view_number(disc, 0, 1));
+}
+
+/* Nothing lent at all: no call may look behind a NULL. */
+static void nothing_lent(void)
+{
+    tandos_reading reading = tandos_read(NULL, 0, NULL, 0, NULL, 0);
+
+    EXPECT_NUMBER(1, tandos_check(NULL, 0).number);
+    EXPECT_NUMBER(0, tandos_check(NULL, 0).rule);
+    EXPECT_NUMBER(1, tandos_list(NULL, 0, NULL, 0).number);
+    EXPECT_NUMBER(1, reading.number);
+    EXPECT_NUMBER(0, reading.length);
+    EXPECT_NUMBER(1, tandos_save(NULL, 0, NULL, 0, 0, 0, 0, NULL, 0));
+    EXPECT_NUMBER(1, tandos_delete(NULL, 0, NULL, 0));
+    EXPECT_NUMBER(1, tandos_rename(NULL, 0, NULL, 0, NULL, 0));
+    EXPECT_NUMBER(1, tandos_protect(NULL, 0, NULL, 0, 0));
+    EXPECT_NUMBER(1, tandos_blank(NULL, 0, NULL, 0));
+    EXPECT_NUMBER(1, tandos_view_number(NULL, 0, 0, 1));
+    EXPECT_NUMBER(1, tandos_view(NULL, 0, 0, 1) == NULL);
+}
+
+/* An image lent, and beside it NULL with length 0. */
+static void no_name_and_no_buffer(void)
+{
+    struct text nothing = bytes(NULL, 0);
+    struct disc disc, expected;
+    uint8_t *image = disc.bytes;
+    uint8_t name[1] = { 'A' };
+
+    make_small(&disc);
+    expected = disc;
+    EXPECT_NUMBER(2, try_save(&disc, nothing, 0, 0, 0, nothing));
+    EXPECT_NUMBER(7, try_save(&disc, text("C"), 0, 0, 0, nothing));
+    EXPECT_NUMBER(2, try_delete(&disc, nothing));
+    EXPECT_NUMBER(2, try_rename(&disc, text("A"), nothing));
+    EXPECT_NUMBER(2, try_rename(&disc, nothing, text("C")));
+    EXPECT_NUMBER(2, try_protect(&disc, nothing, 1));
+    EXPECT_NUMBER(2, try_blank(&disc, nothing));
+    EXPECT_NUMBER(10, tandos_list(image, disc.length, NULL, 0).number);
+    EXPECT_NUMBER(2, tandos_read(image, disc.length, NULL, 0, NULL, 0).number);
+    EXPECT_NUMBER(10, tandos_read(image, disc.length, name, 1, NULL, 0).number);
+    expect_disc("disc after refusals", &expected, &disc);
+}
+
+static void macros(void)
+{
+    EXPECT_NUMBER(256, TANDOS_SECTOR_SIZE);
+    EXPECT_NUMBER(2560, TANDOS_TRACK_SIZE);
+    EXPECT_NUMBER(2560, TANDOS_SECTOR_SIZE * TANDOS_SECTORS_PER_TRACK);
+    EXPECT_NUMBER(204800, TANDOS_IMAGE_SIZE(TANDOS_MAX_TRACKS));
+    EXPECT_NUMBER(256, TANDOS_LINK_SIZE + TANDOS_VIEW_SIZE);
+    EXPECT_NUMBER(28, TANDOS_LIST_SIZE(1));
+    EXPECT_NUMBER(65536, TANDOS_SHEET_MAX);
+}
+
+void test_sizes(void)
+{
+    static const size_t lengths[] = {
+        0, 1, 255, 256, 2559, 2561, 2816, 5119, 5121,
+        80 * 2560 - 1, 80 * 2560 + 1, 80 * 2560 + 256, 81 * 2560
+    };
+    struct disc disc;
+    size_t i;
+
+    for (i = 0; i < sizeof lengths / sizeof lengths[0]; i++) {
+        make_small(&disc);
+        disc.length = lengths[i];
+        refused_for_size(&disc);
+    }
+    nothing_lent();
+    no_name_and_no_buffer();
+    macros();
+}

@@ -1,0 +1,73 @@
+/* The sector view: where it lies, and sectors that are not on the disc. */
+#include <string.h>
+
+#include "calls.h"
+#include "report.h"
+#include "tests.h"
+
+/* The image position of the first byte shown; 0, where none is, if refused. */
+static size_t shown_at(const struct disc *disc, uint32_t track, uint32_t sector)
+{
+    const uint8_t *view =
+        tandos_view(disc->bytes, disc->length, track, sector);
+
+    return view == NULL ? 0 : (size_t)(view - disc->bytes);
+}
+
+static void places(const struct disc *disc)
+{
+    EXPECT_NUMBER(0 + 2, shown_at(disc, 0, 1));
+    EXPECT_NUMBER(256 + 2, shown_at(disc, 0, 2));
+    EXPECT_NUMBER(1536 + 2, shown_at(disc, 0, 7));
+    EXPECT_NUMBER(2304 + 2, shown_at(disc, 0, 10));
+    EXPECT_NUMBER(2560 + 2, shown_at(disc, 1, 1));
+    EXPECT_NUMBER(102144 + 2, shown_at(disc, 39, 10));
+}
+
+static void not_on_the_disc(const struct disc *disc, uint32_t tracks)
+{
+    EXPECT_NUMBER(0, try_view_number(disc, tracks - 1, 10));
+    EXPECT_NUMBER(11, try_view_number(disc, tracks, 1));
+    EXPECT_NUMBER(11, try_view_number(disc, 0, 0));
+    EXPECT_NUMBER(11, try_view_number(disc, 0, 11));
+    EXPECT_NUMBER(11, try_view_number(disc, tracks - 1, 11));
+    EXPECT_NUMBER(11, try_view_number(disc, 255, 1));
+    EXPECT_NUMBER(11, try_view_number(disc, 256, 1));
+    EXPECT_NUMBER(11, try_view_number(disc, 0, 256));
+    EXPECT_NUMBER(11, try_view_number(disc, 0, 257));
+    EXPECT_NUMBER(11, try_view_number(disc, 0x10000, 1));
+    EXPECT_NUMBER(11, try_view_number(disc, 0, 0x10001));
+    /* 10 * track is 2 modulo 2 to the 32nd */
+    EXPECT_NUMBER(11, try_view_number(disc, 0x1999999A, 1));
+    EXPECT_NUMBER(11, try_view_number(disc, 0x80000000, 1));
+    EXPECT_NUMBER(11, try_view_number(disc, 0xFFFFFFFF, 1));
+    EXPECT_NUMBER(11, try_view_number(disc, 0, 0xFFFFFFFF));
+    EXPECT_NUMBER(11, try_view_number(disc, 0xFFFFFFFF, 0xFFFFFFFF));
+}
+
+static void every_sector(const struct disc *disc)
+{
+    uint32_t track, sector;
+
+    for (track = 0; track < 80; track++)
+        for (sector = 1; sector <= 10; sector++)
+            EXPECT_NUMBER(2560 * track + 256 * (sector - 1) + 2,
+                          shown_at(disc, track, sector));
+}
+
+void test_view(void)
+{
+    struct disc disc;
+
+    make_pieces(&disc);
+    places(&disc);
+    not_on_the_disc(&disc, 40);
+    /* Unsound images are shown too. */
+    memset(disc.bytes, 0xEE, sizeof disc.bytes);
+    places(&disc);
+    disc.length = 2560;
+    not_on_the_disc(&disc, 1);
+    disc.length = 80 * 2560;
+    not_on_the_disc(&disc, 80);
+    every_sector(&disc);
+}

@@ -1,0 +1,72 @@
+/*
+ * Lengths of more than 32 bits: none may be cut. The memory is really lent, but
+ * hardly touched, so that it takes few pages of the machine. The sanitizer
+ * would fill its own record of it, so this is left to the plain run.
+ */
+#include <stdio.h>
+#include <stdlib.h>
+
+#include "calls.h"
+#include "report.h"
+#include "tests.h"
+
+#if SIZE_MAX > 0xFFFFFFFF && !defined(__SANITIZE_ADDRESS__)
+
+#define CUT_TO_ZERO ((size_t)1 << 32)
+
+/* Cut to 32 bits, each length below would be right: 2,560, 1 and 1. */
+static void too_long(uint8_t *wide, struct disc *disc)
+{
+    struct disc expected = *disc;
+    uint8_t name[1] = { 'C' };
+
+    EXPECT_NUMBER(1, tandos_check(wide, CUT_TO_ZERO + 2560).number);
+    EXPECT_NUMBER(1, tandos_view_number(wide, CUT_TO_ZERO + 2560, 0, 1));
+    EXPECT_NUMBER(2, tandos_delete(disc->bytes, disc->length, wide,
+                                   CUT_TO_ZERO + 1));
+    EXPECT_NUMBER(7, tandos_save(disc->bytes, disc->length, name, 1, 0, 0, 0,
+                                 wide, CUT_TO_ZERO + 1));
+    expect_disc("disc after refusals", &expected, disc);
+}
+
+/* Cut to 32 bits, the buffer would be of length 0. */
+static void long_enough(uint8_t *wide, const struct disc *disc)
+{
+    uint8_t name[1] = { 'A' };
+    tandos_listed listed =
+        tandos_list(disc->bytes, disc->length, wide, CUT_TO_ZERO);
+    tandos_reading reading = tandos_read(disc->bytes, disc->length, name, 1,
+                                         wide, CUT_TO_ZERO);
+
+    EXPECT_NUMBER(0, listed.number);
+    EXPECT_NUMBER(41, listed.length);
+    EXPECT_NUMBER(0, reading.number);
+    EXPECT_NUMBER(245, reading.length);
+    expect_bytes("bytes read", sheet, wide, 245);
+}
+
+void test_wide(void)
+{
+    uint8_t *wide = calloc(CUT_TO_ZERO + 2560, 1);
+    struct disc disc;
+
+    if (wide == NULL) {
+        puts("wide: left out, the machine does not lend 4 GiB of addresses");
+        return;
+    }
+    make_small(&disc);
+    /* A dot here spares a search for one through all of the memory. */
+    wide[0] = 'A';
+    wide[1] = '.';
+    too_long(wide, &disc);
+    long_enough(wide, &disc);
+    free(wide);
+}
+
+#else
+
+void test_wide(void)
+{
+}
+
+#endif
