@@ -1,0 +1,90 @@
+// Executes the unstarred examples of document 01 and prints what comes out, line by line.
+use libc::STDOUT_FILENO;
+
+const TRACK: usize = 2560;
+
+fn main() {
+    sectors_for_lengths();
+    directory_growth();
+    rename_to_itself();
+}
+
+fn text(bytes: &[u8]) {
+    io::write_all(STDOUT_FILENO, bytes);
+}
+
+fn number(x: u64) {
+    io::print_decimal(STDOUT_FILENO, x);
+}
+
+// Sixteen bits, low byte first.
+fn word(low: u8, high: u8) -> u64 {
+    low as u64 + 256 * (high as u64)
+}
+
+// Saves the sheet on a blank disc, and prints its length and the used count of the list.
+fn sectors_taken(sheet: &[u8]) {
+    let mut image = [0u8; TRACK];
+    let mut records = [0u8; 64];
+    tandos::tandos_blank(&mut image, b"LENGTHS");
+    tandos::tandos_save(&mut image, b"SHEET", 0, 0x2000, 0x2000, sheet);
+    tandos::tandos_list(&image, &mut records);
+    number(sheet.len() as u64);
+    text(b" bytes take ");
+    number(word(records[12], records[13]));
+    text(b" sectors\n");
+}
+
+// "L = 1 and 245 take 1; 246 and 498 take 2; 499 takes 3"
+fn sectors_for_lengths() {
+    let sheet = [0x5Au8; 499];
+    sectors_taken(&sheet[..1]);
+    sectors_taken(&sheet[..245]);
+    sectors_taken(&sheet[..246]);
+    sectors_taken(&sheet[..498]);
+    sectors_taken(&sheet);
+}
+
+// Saves a file of one sector under a name of one letter, and prints the number and how many sectors are free then.
+fn save_letter(image: &mut [u8], letter: u8) {
+    let name = [letter];
+    let mut records = [0u8; 512];
+    text(b"save ");
+    text(&name);
+    text(b": ");
+    number(tandos::tandos_save(image, &name, 0, 0x2000, 0x2000, b"12 trousers") as u64);
+    tandos::tandos_list(image, &mut records);
+    text(b", free ");
+    number(word(records[10], records[11]));
+    text(b"\n");
+}
+
+fn save_letters(image: &mut [u8]) {
+    for letter in b'A'..=b'P' {
+        save_letter(image, letter);
+    }
+}
+
+// "The 15th file needs no directory sector, the 16th one more; after one delete the next save needs none."
+fn directory_growth() {
+    let mut image = [0u8; 3 * TRACK];
+    tandos::tandos_blank(&mut image, b"GROWTH");
+    save_letters(&mut image);
+    text(b"delete C: ");
+    number(tandos::tandos_delete(&mut image, b"C") as u64);
+    text(b"\n");
+    save_letter(&mut image, b'Q');
+}
+
+// "Rename of an unprotected file to its own name gives 5; of a protected one, 6."
+fn rename_to_itself() {
+    let mut image = [0u8; TRACK];
+    tandos::tandos_blank(&mut image, b"NAMES");
+    tandos::tandos_save(&mut image, b"THU.PCS", 0, 0x2000, 0x2000, b"7 jackets");
+    text(b"rename to its own name: ");
+    number(tandos::tandos_rename(&mut image, b"THU.PCS", b"THU.PCS") as u64);
+    tandos::tandos_protect(&mut image, b"THU.PCS", 1);
+    text(b"\nthe same, protected: ");
+    number(tandos::tandos_rename(&mut image, b"THU.PCS", b"THU.PCS") as u64);
+    text(b"\n");
+}
