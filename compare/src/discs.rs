@@ -1,6 +1,6 @@
 //! Starting images beside those of the second program's own generators.
 
-use reference::generate::{capacity, damaged_disc, fresh_name, sound_disc, Random};
+use reference::generate::{capacity, damage, fresh_name, sound_disc_of, Random};
 
 const TRACK_BYTES: usize = 2560;
 const MOST_TRACKS: usize = 80;
@@ -11,23 +11,28 @@ const FREE_COUNT: usize = 0x14;
 /// 0/4, the directory sector of a blank disc.
 const BLANK_DIRECTORY: usize = 3 * 256;
 
-/// Mostly small, so that a run of many calls takes little time.
-fn most_tracks(random: &mut Random) -> usize {
-    match random.below(8) {
-        0 => MOST_TRACKS,
-        1 => 10,
-        _ => 3,
+/// Mostly few, so that many calls take little time; one image in `chances` has
+/// more than 25, and as many have more than 5.
+fn track_count(random: &mut Random, chances: usize) -> usize {
+    match random.below(chances) {
+        0 if random.one_in(3) => MOST_TRACKS,
+        0 => random.between(26, MOST_TRACKS),
+        1 => random.between(6, 25),
+        _ => random.between(1, 5),
     }
 }
 
 pub fn sound(random: &mut Random) -> Vec<u8> {
-    let most = most_tracks(random);
-    sound_disc(random, most)
+    let tracks = track_count(random, 30);
+    sound_disc_of(random, tracks)
 }
 
+/// Commands on these are mostly refused at once, so there are more large ones.
 pub fn damaged(random: &mut Random) -> Vec<u8> {
-    let most = most_tracks(random);
-    damaged_disc(random, most)
+    let tracks = track_count(random, 6);
+    let mut image = sound_disc_of(random, tracks);
+    damage(random, &mut image);
+    image
 }
 
 pub fn blank(random: &mut Random, tracks: usize) -> Vec<u8> {
@@ -38,8 +43,7 @@ pub fn blank(random: &mut Random, tracks: usize) -> Vec<u8> {
 
 /// Files of any length on a disc with at most three free sectors left.
 pub fn nearly_full(random: &mut Random) -> Vec<u8> {
-    let most = most_tracks(random);
-    let tracks = random.between(1, most);
+    let tracks = track_count(random, 30);
     let mut image = blank(random, tracks);
     let left = random.below(4);
     while free_count(&image) > left {
@@ -73,8 +77,7 @@ pub fn small_files(random: &mut Random) -> Vec<u8> {
 
 /// A blank disc whose directory has taken free sectors, often all of them.
 pub fn wide_directory(random: &mut Random) -> Vec<u8> {
-    let most = most_tracks(random);
-    let tracks = random.between(1, most);
+    let tracks = track_count(random, 30);
     let mut image = blank(random, tracks);
     let free = free_count(&image);
     let taken = if random.one_in(2) {
