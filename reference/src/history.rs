@@ -1,4 +1,7 @@
 //! The history: a plain book of a run, and what it claims at each moment.
+//!
+//! The claims hold for any program that follows the document, so the calls
+//! that they speak of are taken from a `Program`.
 
 use crate::command::Command;
 use crate::disc::{word, FREE_COUNT};
@@ -7,6 +10,43 @@ use crate::{check, list, read, save, Reading};
 
 const SLOTS_PER_DIRECTORY_SECTOR: usize = 15;
 const WHOLE_PAGE: usize = 65_536;
+
+/// A program whose calls the claims of the book speak of.
+pub trait Program {
+    fn read(&self, image: &[u8], name: &[u8], buffer: &mut [u8]) -> Reading;
+
+    fn save(
+        &self,
+        image: &mut [u8],
+        name: &[u8],
+        page: u32,
+        start: u16,
+        transfer: u16,
+        sheet: &[u8],
+    ) -> u32;
+}
+
+/// The calls of this crate.
+#[derive(Debug, Clone, Copy)]
+pub struct Reference;
+
+impl Program for Reference {
+    fn read(&self, image: &[u8], name: &[u8], buffer: &mut [u8]) -> Reading {
+        read(image, name, buffer)
+    }
+
+    fn save(
+        &self,
+        image: &mut [u8],
+        name: &[u8],
+        page: u32,
+        start: u16,
+        transfer: u16,
+        sheet: &[u8],
+    ) -> u32 {
+        save(image, name, page, start, transfer, sheet)
+    }
+}
 
 /// What a standing file reads as.
 #[derive(Debug, Clone, PartialEq, Eq)]
@@ -203,15 +243,15 @@ fn follow(image: &[u8], head: (u8, u8)) -> Option<Vec<usize>> {
 }
 
 /// What is wrong at one moment of a run, if the image is not as the book of
-/// the run claims.
-pub fn moment_fault(image: &[u8], book: &Book) -> Option<String> {
+/// the run claims, or the program does not save and read as it claims.
+pub fn moment_fault(program: &impl Program, image: &[u8], book: &Book) -> Option<String> {
     if image.len() != book.sectors_on_disc * 256 {
         return Some("the image is not of the starting size".to_string());
     }
     places_fault(image, book)
-        .or_else(|| room_fault(image, book))
-        .or_else(|| readings_fault(image, book))
-        .or_else(|| absent_fault(image, book))
+        .or_else(|| room_fault(program, image, book))
+        .or_else(|| readings_fault(program, image, book))
+        .or_else(|| absent_fault(program, image, book))
 }
 
 /// The sectors met by following each chain of an image to its end link.
@@ -270,7 +310,7 @@ fn file_heads(image: &[u8], directory: &[usize]) -> Vec<(u8, u8)> {
 }
 
 /// A save of a new name is accepted exactly when its need is within the sum.
-fn room_fault(image: &[u8], book: &Book) -> Option<String> {
+fn room_fault(program: &impl Program, image: &[u8], book: &Book) -> Option<String> {
     let name = absent_names(book).next()?;
     let free = book.free();
     let mut lengths = vec![1, 245, 246, 499];
@@ -282,7 +322,7 @@ fn room_fault(image: &[u8], book: &Book) -> Option<String> {
         .into_iter()
         .filter(|&length| length <= WHOLE_PAGE)
         .find_map(|length| {
-            let answer = save(&mut image.to_vec(), &name, 0, 0, 0, &vec![7; length]);
+            let answer = program.save(&mut image.to_vec(), &name, 0, 0, 0, &vec![7; length]);
             let expected = if book.need(length) <= free { 0 } else { 8 };
             (answer != expected)
                 .then(|| format!("save of {length} bytes with {free} free: {answer}"))
@@ -290,7 +330,7 @@ fn room_fault(image: &[u8], book: &Book) -> Option<String> {
 }
 
 /// Every file in the book reads as the book says.
-fn readings_fault(image: &[u8], book: &Book) -> Option<String> {
+fn readings_fault(program: &impl Program, image: &[u8], book: &Book) -> Option<String> {
     book.files.iter().find_map(|file| {
         let length = match &file.reading {
             BookReading::Module(reading, _) => reading.length as usize,
@@ -299,14 +339,19 @@ fn readings_fault(image: &[u8], book: &Book) -> Option<String> {
         let lengths = [0, length - 1, length, length + 3];
         lengths
             .iter()
-            .find_map(|&lent| reading_fault(image, file, lent))
+            .find_map(|&lent| reading_fault(program, image, file, lent))
     })
 }
 
-fn reading_fault(image: &[u8], file: &StandingFile, lent: usize) -> Option<String> {
+fn reading_fault(
+    program: &impl Program,
+    image: &[u8],
+    file: &StandingFile,
+    lent: usize,
+) -> Option<String> {
     const FILL: u8 = 0xA5;
     let mut buffer = vec![FILL; lent];
-    let answer = read(image, &typed_form(&file.name), &mut buffer);
+    let answer = program.read(image, &typed_form(&file.name), &mut buffer);
     let mut expected_buffer = vec![FILL; lent];
     let expected = match &file.reading {
         BookReading::NotPlain => refused(9),
@@ -317,7 +362,8 @@ fn reading_fault(image: &[u8], file: &StandingFile, lent: usize) -> Option<Strin
         }
     };
     let right = answer == expected && buffer == expected_buffer;
-    (!right).then(|| format!("read of {:?} with {lent}: {answer:?}", file.name))
+    let name = String::from_utf8_lossy(&file.name);
+    (!right).then(|| format!("read of '{name}' with {lent}: {answer:?}"))
 }
 
 fn refused(number: u32) -> Reading {
@@ -332,10 +378,11 @@ fn refused(number: u32) -> Reading {
 }
 
 /// Legal names that are not in the book give 4.
-fn absent_fault(image: &[u8], book: &Book) -> Option<String> {
+fn absent_fault(program: &impl Program, image: &[u8], book: &Book) -> Option<String> {
     absent_names(book).find_map(|name| {
-        let answer = read(image, &name, &mut [0; 8]);
-        (answer != refused(4)).then(|| format!("absent {name:?} gives {answer:?}"))
+        let answer = program.read(image, &name, &mut [0; 8]);
+        let typed = String::from_utf8_lossy(&name);
+        (answer != refused(4)).then(|| format!("absent '{typed}' gives {answer:?}"))
     })
 }
 

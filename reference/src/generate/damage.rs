@@ -7,25 +7,30 @@ use crate::disc::{DIRECTORY_POINTER, FREE_COUNT, FREE_POINTER, USED_COUNT};
 
 pub fn damaged_disc(random: &mut Random, max_tracks: usize) -> Vec<u8> {
     let mut image = sound_disc(random, max_tracks);
+    damage(random, &mut image);
+    image
+}
+
+/// Damages a sound image; now and then nothing comes of it.
+pub fn damage(random: &mut Random, image: &mut Vec<u8>) {
     match random.below(10) {
-        0 => wrong_length(random, &mut image),
+        0 => wrong_length(random, image),
         1..=3 => {
             for _ in 0..random.between(1, 3) {
-                flip_byte(random, &mut image);
+                flip_byte(random, image);
             }
         }
         4 | 5 => {
             for _ in 0..random.between(2, 3) {
                 let rule = random.between(1, 8);
-                break_rule(random, &mut image, rule);
+                break_rule(random, image, rule);
             }
         }
         _ => {
             let rule = random.between(1, 8);
-            break_rule(random, &mut image, rule);
+            break_rule(random, image, rule);
         }
     }
-    image
 }
 
 /// Leaves an image whose length isn't 2,560 times 1 to 80.

@@ -9,6 +9,11 @@ use std::collections::BTreeSet;
 /// A sound image of at most `max_tracks` tracks, mostly small.
 pub fn sound_disc(random: &mut Random, max_tracks: usize) -> Vec<u8> {
     let tracks = track_count(random, max_tracks.clamp(1, 80));
+    sound_disc_of(random, tracks)
+}
+
+/// A sound image of 1 to 80 tracks.
+pub fn sound_disc_of(random: &mut Random, tracks: usize) -> Vec<u8> {
     let mut maker = Maker::new(random, tracks);
     let slots = maker.place_directory();
     maker.place_files(&slots);

@@ -3,7 +3,7 @@
 use crate::common::{small, ONE_SLOT, TWO_SLOT};
 use reference::blank;
 use reference::command::{Answer, Command};
-use reference::history::{moment_fault, Book, BookReading};
+use reference::history::{moment_fault, Book, BookReading, Reference};
 
 fn save_command(name: &str, length: usize) -> Command {
     Command::Save {
@@ -25,7 +25,7 @@ fn delete_command(name: &str) -> Command {
 fn accept(image: &mut [u8], book: &mut Book, command: &Command) {
     assert_eq!(command.run(image), Answer::Number(0), "{command:?}");
     book.record(command, true);
-    assert_eq!(moment_fault(image, book), None, "{command:?}");
+    assert_eq!(moment_fault(&Reference, image, book), None, "{command:?}");
 }
 
 fn blank_start(tracks: usize) -> (Vec<u8>, Book) {
@@ -51,7 +51,7 @@ fn the_book_of_the_hand_made_disc() {
         }
         BookReading::NotPlain => panic!("ONE is a module"),
     }
-    assert_eq!(moment_fault(&small(), &book), None);
+    assert_eq!(moment_fault(&Reference, &small(), &book), None);
 }
 
 #[test]
@@ -132,7 +132,7 @@ fn faults_are_found() {
     let found = |at: usize, byte: u8| {
         let mut image = small();
         image[at] = byte;
-        moment_fault(&image, &book).is_some()
+        moment_fault(&Reference, &image, &book).is_some()
     };
     assert!(found(0x14, 4), "free count");
     assert!(found(0x10, 7), "free pointer");
@@ -144,17 +144,17 @@ fn faults_are_found() {
     assert!(found(ONE_SLOT, b'X'), "a name");
     assert!(found(TWO_SLOT + 11, 5), "a first sector");
     assert!(found(1, 1) == found(0x60, 1), "bytes of no meaning");
-    assert!(moment_fault(&small()[..2559], &book).is_some());
+    assert!(moment_fault(&Reference, &small()[..2559], &book).is_some());
 }
 
 #[test]
 fn a_save_that_only_says_done_is_found() {
     let mut book = Book::start(&small()).expect("sound");
     book.record(&save_command("NEW", 3), true);
-    assert!(moment_fault(&small(), &book).is_some());
+    assert!(moment_fault(&Reference, &small(), &book).is_some());
     let mut book = Book::start(&small()).expect("sound");
     book.record(&delete_command("ONE"), true);
-    assert!(moment_fault(&small(), &book).is_some());
+    assert!(moment_fault(&Reference, &small(), &book).is_some());
 }
 
 #[test]
@@ -167,5 +167,5 @@ fn a_sheet_of_other_bytes_is_found() {
         sheet[2] = 0x43;
     }
     book.record(&other, true);
-    assert!(moment_fault(&image, &book).is_some());
+    assert!(moment_fault(&Reference, &image, &book).is_some());
 }

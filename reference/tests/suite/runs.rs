@@ -3,7 +3,7 @@
 
 use reference::command::Command;
 use reference::generate::{command_list, fresh_name, sound_disc, Random};
-use reference::history::{moment_fault, Book};
+use reference::history::{moment_fault, Book, Reference};
 
 fn sound(image: &[u8]) -> bool {
     let checked = reference::check(image);
@@ -14,7 +14,11 @@ fn sound(image: &[u8]) -> bool {
 fn checked_run(start: &[u8], commands: &[Command], label: u64) -> usize {
     let mut image = start.to_vec();
     let mut book = Book::start(start).expect("the starting image is sound");
-    assert_eq!(moment_fault(&image, &book), None, "seed {label}, start");
+    assert_eq!(
+        moment_fault(&Reference, &image, &book),
+        None,
+        "seed {label}, start"
+    );
     let mut accepted = 0;
     for (at, command) in commands.iter().enumerate() {
         let before = image.clone();
@@ -25,7 +29,7 @@ fn checked_run(start: &[u8], commands: &[Command], label: u64) -> usize {
             assert_eq!(image, before, "seed {label}, command {at}");
         }
         assert!(sound(&image), "seed {label}, command {at} {command:?}");
-        let fault = moment_fault(&image, &book);
+        let fault = moment_fault(&Reference, &image, &book);
         assert_eq!(fault, None, "seed {label}, command {at} {command:?}");
     }
     accepted

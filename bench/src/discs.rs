@@ -1,0 +1,128 @@
+//! The discs that the calls are timed on.
+
+use reference::generate::capacity;
+
+/// Takes 80 sectors.
+const LARGE_BYTES: usize = 20_000;
+const LARGE_SECTORS: usize = 80;
+const SMALL_BYTES: usize = 200;
+/// Enough for the module that is saved and deleted.
+const LEFT_FREE: usize = 10;
+const SHEET_BYTES: usize = 5000;
+const SHEET_SECTORS: usize = 20;
+
+/// An image and the name of the file that calls name, the last of the
+/// directory.
+#[derive(Debug, Clone)]
+pub struct Disc {
+    pub image: Vec<u8>,
+    pub file: Vec<u8>,
+}
+
+fn blank(tracks: usize) -> Disc {
+    let mut image = vec![0; 2560 * tracks];
+    assert_eq!(reference::blank(&mut image, b"BENCH"), 0);
+    Disc {
+        image,
+        file: Vec::new(),
+    }
+}
+
+impl Disc {
+    fn free(&self) -> usize {
+        usize::from(u16::from_le_bytes([self.image[0x14], self.image[0x15]]))
+    }
+
+    pub fn last_track(&self) -> u32 {
+        (self.image.len() / 2560) as u32 - 1
+    }
+
+    fn save(&mut self, name: String, length: usize) {
+        self.file = name.into_bytes();
+        let sheet: Vec<u8> = (0..length).map(|at| (at * 7) as u8).collect();
+        let number = reference::save(&mut self.image, &self.file, 0, 0x2000, 0x2000, &sheet);
+        assert_eq!(number, 0, "the file fits");
+    }
+
+    /// Files of 20,000 bytes, and before them one that takes what they leave,
+    /// until `left` sectors are free.
+    fn fill(&mut self, left: usize) {
+        let sectors = self.free() - left;
+        let rest = sectors % LARGE_SECTORS;
+        if rest > 0 {
+            self.save("REST".to_string(), capacity(rest));
+        }
+        for number in 0..sectors / LARGE_SECTORS {
+            self.save(format!("LARGE{number}"), LARGE_BYTES);
+        }
+    }
+
+    fn save_small_files(&mut self, count: usize) {
+        for number in 0..count {
+            self.save(format!("F{number}"), SMALL_BYTES);
+        }
+    }
+
+    /// The same file on every disc, to be read.
+    fn save_sheet(&mut self) {
+        self.save("SHEET".to_string(), SHEET_BYTES);
+    }
+}
+
+/// Nearly full, with few files.
+pub fn few_large_files(tracks: usize) -> Disc {
+    let mut disc = blank(tracks);
+    disc.fill(LEFT_FREE);
+    disc
+}
+
+pub fn small_files(tracks: usize, count: usize) -> Disc {
+    let mut disc = blank(tracks);
+    disc.save_small_files(count);
+    disc
+}
+
+/// Nearly full, with few files, the last of which is the sheet.
+pub fn few_large_files_and_sheet(tracks: usize) -> Disc {
+    let mut disc = blank(tracks);
+    disc.fill(LEFT_FREE + SHEET_SECTORS);
+    disc.save_sheet();
+    disc
+}
+
+/// Small files, and behind them the sheet.
+pub fn small_files_and_sheet(tracks: usize, count: usize) -> Disc {
+    let mut disc = small_files(tracks, count);
+    disc.save_sheet();
+    disc
+}
+
+#[cfg(test)]
+mod tests {
+    use super::*;
+
+    fn is_sound(disc: &Disc) -> bool {
+        let checked = reference::check(&disc.image);
+        (checked.number, checked.rule) == (0, 0)
+    }
+
+    #[test]
+    fn nearly_full_discs_keep_room_for_a_save() {
+        for tracks in [5, 10, 20, 40, 80] {
+            for disc in [few_large_files(tracks), few_large_files_and_sheet(tracks)] {
+                assert!(is_sound(&disc));
+                assert_eq!(disc.free(), LEFT_FREE);
+            }
+        }
+        assert_eq!(few_large_files(40).file, b"LARGE3");
+    }
+
+    #[test]
+    fn small_files_stand_in_as_many_entries() {
+        let disc = small_files_and_sheet(80, 600);
+        assert!(is_sound(&disc));
+        let listed = reference::list(&disc.image, &mut vec![0; 65_536]);
+        assert_eq!(listed.length, 14 + 13 * 601 + 1);
+        assert_eq!(disc.file, b"SHEET");
+    }
+}

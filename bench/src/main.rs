@@ -1,0 +1,76 @@
+//! Times the library's calls against the second program's, on the same discs
+//! in one run.
+
+#![forbid(unsafe_code)]
+
+mod discs;
+mod measure;
+mod operation;
+mod program;
+mod table;
+
+use operation::Operation;
+use std::process::ExitCode;
+use table::{Row, Table};
+
+const USAGE: &str = "usage: bench [--growth]";
+const ROUNDS: usize = 501;
+const GROWTH_ROUNDS: usize = 101;
+const GROWING: [Operation; 3] = [Operation::Check, Operation::SaveAndDelete, Operation::Read];
+
+fn main() -> ExitCode {
+    let arguments: Vec<String> = std::env::args().skip(1).collect();
+    let arguments: Vec<&str> = arguments.iter().map(String::as_str).collect();
+    let (rows, rounds) = match arguments[..] {
+        [] => (calls(), ROUNDS),
+        ["--growth"] => (growth(), GROWTH_ROUNDS),
+        _ => {
+            eprintln!("{USAGE}");
+            return ExitCode::from(2);
+        }
+    };
+    let mut table = Table::new();
+    for row in &rows {
+        if !table.print(row, rounds) {
+            return ExitCode::FAILURE;
+        }
+    }
+    table.print_worst();
+    ExitCode::SUCCESS
+}
+
+/// Every call on the discs of the makers' drives.
+fn calls() -> Vec<Row> {
+    let mut rows = Vec::new();
+    for tracks in [40, 80] {
+        for (label, disc) in [
+            ("few large files", discs::few_large_files(tracks)),
+            ("300 small files", discs::small_files(tracks, 300)),
+        ] {
+            rows.extend(Operation::ALL.map(|operation| Row {
+                label: format!("{}, {tracks} tracks, {label}", operation.name()),
+                operation,
+                disc: disc.clone(),
+            }));
+        }
+    }
+    rows
+}
+
+/// Over the number of tracks, and over the number of files.
+fn growth() -> Vec<Row> {
+    let mut rows = Vec::new();
+    for operation in GROWING {
+        rows.extend([5, 10, 20, 40, 80].map(|tracks| Row {
+            label: format!("{}, {tracks} tracks, few large files", operation.name()),
+            operation,
+            disc: discs::few_large_files_and_sheet(tracks),
+        }));
+        rows.extend([0, 15, 60, 150, 300, 600].map(|files| Row {
+            label: format!("{}, 80 tracks, {files} small files", operation.name()),
+            operation,
+            disc: discs::small_files_and_sheet(80, files),
+        }));
+    }
+    rows
+}

@@ -1,0 +1,45 @@
+//! The two programs as tables of the same functions.
+//!
+//! Both are called through function pointers, so that neither is inlined into
+//! the timing loops.
+
+use compare::ffi;
+use reference::{Checked, Listed, Reading};
+
+type Save = fn(&mut [u8], &[u8], u32, u16, u16, &[u8]) -> u32;
+
+pub struct Program {
+    pub check: fn(&[u8]) -> Checked,
+    pub list: fn(&[u8], &mut [u8]) -> Listed,
+    pub read: fn(&[u8], &[u8], &mut [u8]) -> Reading,
+    pub save: Save,
+    pub delete: fn(&mut [u8], &[u8]) -> u32,
+    pub rename: fn(&mut [u8], &[u8], &[u8]) -> u32,
+    pub protect: fn(&mut [u8], &[u8], u32) -> u32,
+    pub blank: fn(&mut [u8], &[u8]) -> u32,
+    pub view_number: fn(&[u8], u32, u32) -> u32,
+}
+
+pub static LIBRARY: Program = Program {
+    check: ffi::check,
+    list: ffi::list,
+    read: ffi::read,
+    save: ffi::save,
+    delete: ffi::delete,
+    rename: ffi::rename,
+    protect: ffi::protect,
+    blank: ffi::blank,
+    view_number: ffi::view_number,
+};
+
+pub static SECOND: Program = Program {
+    check: reference::check,
+    list: reference::list,
+    read: reference::read,
+    save: reference::save,
+    delete: reference::delete,
+    rename: reference::rename,
+    protect: reference::protect,
+    blank: reference::blank,
+    view_number: reference::view_number,
+};

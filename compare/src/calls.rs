@@ -1,0 +1,114 @@
+//! The nine calls and the order of their refusals, as document 01 gives it.
+
+use reference::command::Command;
+
+#[derive(Debug, Clone, Copy, PartialEq, Eq, PartialOrd, Ord)]
+pub enum Call {
+    Check,
+    List,
+    Read,
+    Save,
+    Delete,
+    Rename,
+    Protect,
+    Blank,
+    View,
+}
+
+impl Call {
+    pub const ALL: [Call; 9] = [
+        Call::Check,
+        Call::List,
+        Call::Read,
+        Call::Save,
+        Call::Delete,
+        Call::Rename,
+        Call::Protect,
+        Call::Blank,
+        Call::View,
+    ];
+
+    pub fn of(command: &Command) -> Call {
+        match command {
+            Command::Check => Call::Check,
+            Command::List { .. } => Call::List,
+            Command::Read { .. } => Call::Read,
+            Command::Save { .. } => Call::Save,
+            Command::Delete { .. } => Call::Delete,
+            Command::Rename { .. } => Call::Rename,
+            Command::Protect { .. } => Call::Protect,
+            Command::Blank { .. } => Call::Blank,
+            Command::View { .. } => Call::View,
+        }
+    }
+
+    pub fn name(self) -> &'static str {
+        match self {
+            Call::Check => "check",
+            Call::List => "list",
+            Call::Read => "read",
+            Call::Save => "save",
+            Call::Delete => "delete",
+            Call::Rename => "rename",
+            Call::Protect => "protect",
+            Call::Blank => "blank",
+            Call::View => "view",
+        }
+    }
+
+    /// The call's refusals; the first that applies is the answer.
+    pub fn order(self) -> &'static [u32] {
+        match self {
+            Call::Check => &[1],
+            Call::List => &[1, 3, 10],
+            Call::Read => &[1, 2, 3, 4, 9, 10],
+            Call::Save => &[1, 2, 7, 3, 5, 8],
+            Call::Delete => &[1, 2, 3, 4, 6],
+            Call::Rename => &[1, 2, 3, 4, 6, 5],
+            Call::Protect => &[1, 2, 3, 4],
+            Call::Blank => &[1, 2],
+            Call::View => &[1, 11],
+        }
+    }
+
+    /// The pairs of refusals that can apply at once, the answer first.
+    pub fn pairs(self) -> Vec<(u32, u32)> {
+        let order = self.order();
+        let after = |at: usize| order[at + 1..].iter().map(move |&later| (order[at], later));
+        (0..order.len())
+            .flat_map(after)
+            .filter(|&(first, later)| self.can_all_apply(&[first, later]))
+            .collect()
+    }
+
+    /// Whether these refusals can apply at once. An absent file is neither
+    /// protected nor other than plain, and an illegal name is no file's. Of
+    /// rename's two names one may be illegal and the other a file's.
+    pub fn can_all_apply(self, refusals: &[u32]) -> bool {
+        let has = |number: &u32| refusals.contains(number);
+        let of_old_name = [4, 6, 9].iter().filter(|number| has(number)).count();
+        let of_new_name = usize::from(has(&5));
+        let names = if self == Call::Rename { 2 } else { 1 };
+        let names_spoken_of = usize::from(has(&2)) + of_old_name + of_new_name;
+        of_old_name <= 1 && names_spoken_of <= names
+    }
+}
+
+#[cfg(test)]
+mod tests {
+    use super::*;
+
+    #[test]
+    fn pairs_follow_the_order() {
+        assert_eq!(Call::Check.pairs(), []);
+        assert_eq!(Call::View.pairs(), [(1, 11)]);
+        assert_eq!(Call::List.pairs(), [(1, 3), (1, 10), (3, 10)]);
+        let protect = [(1, 2), (1, 3), (1, 4), (2, 3), (3, 4)];
+        assert_eq!(Call::Protect.pairs(), protect);
+        assert!(Call::Rename.pairs().contains(&(6, 5)));
+        assert!(Call::Rename.pairs().contains(&(2, 5)));
+        assert!(!Call::Save.pairs().contains(&(2, 5)));
+        assert!(!Call::Rename.can_all_apply(&[2, 4, 5]));
+        assert!(!Call::Read.can_all_apply(&[1, 4, 9]));
+    }
+}

@@ -1,0 +1,144 @@
+//! Commands run on the library, with everything that they lend between guard
+//! bytes.
+
+use crate::ffi;
+use crate::lend::Lent;
+use reference::command::{Answer, Command};
+use reference::generate::Random;
+use reference::history::Program;
+use reference::Reading;
+use std::cell::RefCell;
+
+/// The library for the claims of the history. What it may write in is lent
+/// between guard bytes here too.
+#[derive(Debug, Default)]
+pub struct Library {
+    stray_write: RefCell<Option<String>>,
+}
+
+impl Library {
+    /// The first write of these calls beside what was lent to them.
+    pub fn stray_write(self) -> Option<String> {
+        self.stray_write.into_inner()
+    }
+
+    /// Lends a guarded copy of `bytes` to a call and copies it back.
+    fn guarded<T>(&self, what: &str, bytes: &mut [u8], call: impl Fn(&mut [u8]) -> T) -> T {
+        let mut lent = Lent::shifted(bytes.len(), bytes);
+        let answer = call(lent.bytes_mut());
+        bytes.copy_from_slice(lent.bytes());
+        if let Some(text) = beside(what, &lent) {
+            self.stray_write.borrow_mut().get_or_insert(text);
+        }
+        answer
+    }
+}
+
+impl Program for Library {
+    fn read(&self, image: &[u8], name: &[u8], buffer: &mut [u8]) -> Reading {
+        self.guarded("buffer", buffer, |lent| ffi::read(image, name, lent))
+    }
+
+    fn save(
+        &self,
+        image: &mut [u8],
+        name: &[u8],
+        page: u32,
+        start: u16,
+        transfer: u16,
+        sheet: &[u8],
+    ) -> u32 {
+        self.guarded("image", image, |lent| {
+            ffi::save(lent, name, page, start, transfer, sheet)
+        })
+    }
+}
+
+/// What a call answered, and what it wrote where no call may write.
+pub struct Outcome {
+    pub answer: Answer,
+    pub stray_write: Option<String>,
+}
+
+pub fn run(random: &mut Random, command: &Command, image: &mut Lent) -> Outcome {
+    let texts = texts(command);
+    let mut lent = Arguments {
+        first: Lent::new(random, texts.0),
+        second: Lent::new(random, texts.1),
+        buffer: Lent::new(random, &buffer(command)),
+    };
+    let answer = call(command, image.bytes_mut(), &mut lent);
+    let stray_write = beside("buffer", &lent.buffer)
+        .or_else(|| in_or_beside("name", &lent.first, texts.0))
+        .or_else(|| in_or_beside("sheet or new name", &lent.second, texts.1));
+    Outcome {
+        answer,
+        stray_write,
+    }
+}
+
+/// What a command lends beside the image; empty where it lends nothing.
+struct Arguments {
+    first: Lent,
+    second: Lent,
+    buffer: Lent,
+}
+
+/// The bytes that a command lends for reading only.
+fn texts(command: &Command) -> (&[u8], &[u8]) {
+    match command {
+        Command::Check | Command::List { .. } | Command::View { .. } => (&[], &[]),
+        Command::Read { name, .. }
+        | Command::Delete { name }
+        | Command::Protect { name, .. }
+        | Command::Blank { name } => (name, &[]),
+        Command::Save { name, sheet, .. } => (name, sheet),
+        Command::Rename { old, new } => (old, new),
+    }
+}
+
+fn buffer(command: &Command) -> Vec<u8> {
+    match command {
+        Command::List { buffer } | Command::Read { buffer, .. } => buffer.lend(),
+        _ => Vec::new(),
+    }
+}
+
+/// A view exists in the library's own language alone; its number is compared.
+fn call(command: &Command, image: &mut [u8], lent: &mut Arguments) -> Answer {
+    let (first, second) = (lent.first.bytes(), lent.second.bytes());
+    let buffer = lent.buffer.bytes_mut();
+    match command {
+        Command::Check => Answer::Checked(ffi::check(image)),
+        Command::List { .. } => Answer::Listed(ffi::list(image, buffer), buffer.to_vec()),
+        Command::Read { .. } => Answer::Read(ffi::read(image, first, buffer), buffer.to_vec()),
+        Command::Save {
+            page,
+            start,
+            transfer,
+            ..
+        } => Answer::Number(ffi::save(image, first, *page, *start, *transfer, second)),
+        Command::Delete { .. } => Answer::Number(ffi::delete(image, first)),
+        Command::Rename { .. } => Answer::Number(ffi::rename(image, first, second)),
+        Command::Protect { on, .. } => Answer::Number(ffi::protect(image, first, *on)),
+        Command::Blank { .. } => Answer::Number(ffi::blank(image, first)),
+        Command::View { track, sector } => Answer::Number(ffi::view_number(image, *track, *sector)),
+    }
+}
+
+/// The first changed byte around what was lent.
+pub fn beside(what: &str, lent: &Lent) -> Option<String> {
+    let at = lent.changed_guard()?;
+    let length = lent.bytes().len();
+    Some(format!(
+        "a byte outside the {what} ({length} bytes) is changed, at {at} from its start"
+    ))
+}
+
+fn in_or_beside(what: &str, lent: &Lent, handed_in: &[u8]) -> Option<String> {
+    let pairs = lent.bytes().iter().zip(handed_in);
+    let changed = pairs.into_iter().position(|(now, was)| now != was);
+    changed
+        .map(|at| format!("byte {at} of the {what} is changed, which is lent for reading"))
+        .or_else(|| beside(what, lent))
+}

@@ -1,0 +1,38 @@
+//! Compares the library with the second program; the last line is
+//! 'N passed, M failed'.
+
+use compare::options::{Options, USAGE};
+use compare::run::Driver;
+use std::process::ExitCode;
+
+fn main() -> ExitCode {
+    let arguments: Vec<String> = std::env::args().skip(1).collect();
+    let options = match Options::parse(&arguments) {
+        Some(options) => options,
+        None => {
+            eprintln!("{USAGE}");
+            return ExitCode::from(2);
+        }
+    };
+    // Known before the first call, should a call never come back.
+    println!("seed {}", options.seed);
+    let mut driver = Driver::new(options.seed, options.run.is_some());
+    let missing = match options.run {
+        Some(number) => {
+            driver.run(number);
+            Vec::new()
+        }
+        None => {
+            driver.run_until(options.calls);
+            driver.counts.missing()
+        }
+    };
+    println!("calls {}", driver.counts.calls());
+    println!("{}", driver.counts);
+    for name in &missing {
+        println!("FAILED: never occurred: {name}");
+    }
+    let failed = driver.counts.failed + missing.len() as u64;
+    println!("{} passed, {failed} failed", driver.counts.passed);
+    ExitCode::from(u8::from(failed > 0))
+}

@@ -1,0 +1,76 @@
+//! One image handed to both programs, and the history of its run.
+
+use crate::difference::{between_answers, between_bytes, comparable};
+use crate::lend::Lent;
+use crate::library::{self, beside, Library};
+use reference::command::{Answer, Command};
+use reference::generate::Random;
+use reference::history::{moment_fault, Book};
+
+pub struct Pair {
+    library: Lent,
+    second: Vec<u8>,
+    /// None as long as no moment of the run was a start: the first image is
+    /// not sound, and no blank disc was made since.
+    book: Option<Book>,
+}
+
+impl Pair {
+    pub fn new(random: &mut Random, image: Vec<u8>) -> Pair {
+        Pair {
+            library: Lent::new(random, &image),
+            book: Book::start(&image),
+            second: image,
+        }
+    }
+
+    /// The image as both programs have it.
+    pub fn image(&self) -> &[u8] {
+        &self.second
+    }
+
+    /// Runs a command on both programs and gives the answer, or what differs.
+    pub fn step(&mut self, random: &mut Random, command: &Command) -> Result<Answer, String> {
+        let expected = comparable(command.run(&mut self.second));
+        let outcome = library::run(random, command, &mut self.library);
+        let difference = outcome
+            .stray_write
+            .or_else(|| between_answers(&outcome.answer, &expected))
+            .or_else(|| self.image_difference());
+        if let Some(text) = difference {
+            return Err(text);
+        }
+        self.record(command, outcome.answer.accepted());
+        Ok(outcome.answer)
+    }
+
+    fn record(&mut self, command: &Command, accepted: bool) {
+        match &mut self.book {
+            Some(book) => book.record(command, accepted),
+            None if accepted && matches!(command, Command::Blank { .. }) => {
+                self.book = Book::start(self.library.bytes());
+            }
+            None => {}
+        }
+    }
+
+    /// Whether there is a history that makes claims about this moment.
+    pub fn has_history(&self) -> bool {
+        self.book.is_some()
+    }
+
+    /// What the library's image and calls lack of demand 3 at this moment.
+    pub fn moment_fault(&self) -> Option<String> {
+        let book = self.book.as_ref()?;
+        let library = Library::default();
+        moment_fault(&library, self.library.bytes(), book)
+            .or_else(|| library.stray_write())
+            .or_else(|| self.image_difference())
+            .map(|text| format!("demand 3, in the moment after it: {text}"))
+    }
+
+    fn image_difference(&self) -> Option<String> {
+        beside("image", &self.library)
+            .or_else(|| between_bytes("image", self.library.bytes(), &self.second))
+    }
+}

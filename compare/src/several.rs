@@ -1,0 +1,272 @@
+//! Commands to which several refusals apply at once.
+//!
+//! Each refusal is asked for or not by chance, and the image and arguments are
+//! made for those asked for. So the answer is known without either program:
+//! the first of them in the call's order.
+
+use crate::calls::Call;
+use crate::discs::{blank, free_count};
+use reference::command::{Buffer, Command};
+use reference::generate::{break_rule, capacity, fresh_name, illegal_name, Random};
+
+/// A command, the image it is run on, and the refusals that apply to it, in
+/// the call's order.
+pub struct Case {
+    pub image: Vec<u8>,
+    pub command: Command,
+    pub refusals: Vec<u32>,
+}
+
+impl Case {
+    pub fn draw(random: &mut Random) -> Case {
+        let call = random.pick(&Call::ALL);
+        let refusals = some_refusals(random, call);
+        let has = |number: u32| refusals.contains(&number);
+        let disc = Disc::new(random, &has);
+        Case {
+            command: disc.command(random, call, &has),
+            image: disc.image,
+            refusals,
+        }
+    }
+
+    pub fn expected_number(&self) -> u32 {
+        self.refusals.first().copied().unwrap_or(0)
+    }
+}
+
+/// Mostly a pair, each as likely as any other, and sometimes a third.
+fn some_refusals(random: &mut Random, call: Call) -> Vec<u32> {
+    let pairs = call.pairs();
+    let mut asked = match random.below(8) {
+        0 => Vec::new(),
+        _ if pairs.is_empty() => call.order().to_vec(),
+        _ => {
+            let (one, other) = random.pick(&pairs);
+            vec![one, other]
+        }
+    };
+    if random.one_in(3) {
+        asked.push(random.pick(call.order()));
+        if !call.can_all_apply(&asked) {
+            asked.pop();
+        }
+    }
+    let in_order = call.order().iter().copied();
+    in_order.filter(|number| asked.contains(number)).collect()
+}
+
+/// A disc with one file of each kind that a refusal speaks of.
+struct Disc {
+    image: Vec<u8>,
+    plain: Vec<u8>,
+    plain_length: usize,
+    protected: Vec<u8>,
+    not_plain: Vec<u8>,
+    absent: Vec<u8>,
+}
+
+const MOST_PLAIN: usize = 700;
+
+impl Disc {
+    fn new(random: &mut Random, has: &impl Fn(u32) -> bool) -> Disc {
+        let [plain, protected, not_plain, absent, filling] = distinct_names(random);
+        let tracks = random.between(1, 3);
+        let mut disc = Disc {
+            image: blank(random, tracks),
+            plain,
+            plain_length: random.between(1, MOST_PLAIN),
+            protected,
+            not_plain,
+            absent,
+        };
+        disc.save_files(random);
+        if has(8) {
+            disc.fill(random, &filling);
+        }
+        if has(3) {
+            // The used count alone: all that other refusals look at stays.
+            break_rule(random, &mut disc.image, 7);
+        }
+        if has(1) {
+            let length = disc.image.len();
+            let wrong = random.pick(&[length - 1, length + 1, length + 256]);
+            disc.image.resize(wrong, 0);
+        }
+        disc
+    }
+
+    fn save_files(&mut self, random: &mut Random) {
+        let image = &mut self.image;
+        for (name, length) in [
+            (&self.plain, self.plain_length),
+            (&self.protected, 200),
+            (&self.not_plain, 200),
+        ] {
+            let sheet = random.bytes(length);
+            assert_eq!(reference::save(image, name, 0, 0, 0, &sheet), 0);
+        }
+        assert_eq!(reference::protect(image, &self.protected, 1), 0);
+        // The third slot of 0/4 has the file's first sector and track. Its
+        // byte 2 is the header's mark.
+        let (sector, track) = (image[814], image[815]);
+        image[(usize::from(track) * 10 + usize::from(sector) - 1) * 256 + 2] = 0xFE;
+    }
+
+    /// Leaves no free sector, so that every save needs more than there is.
+    fn fill(&mut self, random: &mut Random, name: &[u8]) {
+        let sheet = random.bytes(capacity(free_count(&self.image)));
+        assert_eq!(reference::save(&mut self.image, name, 0, 0, 0, &sheet), 0);
+    }
+
+    fn command(&self, random: &mut Random, call: Call, has: &impl Fn(u32) -> bool) -> Command {
+        match call {
+            Call::Check => Command::Check,
+            Call::List => Command::List {
+                // Three files and the disc take 54 bytes.
+                buffer: lent(random, if has(10) { 0..54 } else { 67..200 }),
+            },
+            Call::Read => self.read(random, has),
+            Call::Save => self.save(random, has),
+            Call::Delete => Command::Delete {
+                name: self.old_name(random, has),
+            },
+            Call::Rename => self.rename(random, has),
+            Call::Protect => Command::Protect {
+                name: self.old_name(random, has),
+                on: random.below(2) as u32,
+            },
+            Call::Blank => Command::Blank {
+                name: disc_name(random, has(2)),
+            },
+            Call::View => view(random, has(11)),
+        }
+    }
+
+    /// The name of a file that should stand, by the refusals asked for.
+    fn old_name(&self, random: &mut Random, has: &impl Fn(u32) -> bool) -> Vec<u8> {
+        if has(2) {
+            illegal_name(random)
+        } else if has(4) {
+            self.absent.clone()
+        } else if has(6) {
+            self.protected.clone()
+        } else if has(9) {
+            self.not_plain.clone()
+        } else {
+            self.plain.clone()
+        }
+    }
+
+    fn standing_name(&self, random: &mut Random) -> Vec<u8> {
+        let standing = [&self.plain, &self.protected, &self.not_plain];
+        random.pick(&standing).clone()
+    }
+
+    /// No answer is of no bytes, so an empty buffer holds none.
+    fn read(&self, random: &mut Random, has: &impl Fn(u32) -> bool) -> Command {
+        let name = self.old_name(random, has);
+        let lengths = match (has(10), name == self.plain) {
+            (false, _) => MOST_PLAIN..MOST_PLAIN + 9,
+            (true, false) => 0..1,
+            (true, true) => 0..self.plain_length,
+        };
+        let buffer = lent(random, lengths);
+        Command::Read { name, buffer }
+    }
+
+    fn save(&self, random: &mut Random, has: &impl Fn(u32) -> bool) -> Command {
+        let name = if has(2) {
+            illegal_name(random)
+        } else if has(5) {
+            self.standing_name(random)
+        } else {
+            self.absent.clone()
+        };
+        let start = random.between(0x1000, 0xFF00);
+        let (page, length) = match random.below(3) {
+            _ if !has(7) => (random.below(8), random.between(1, 245)),
+            0 => (random.pick(&[8, 256]), random.between(1, 245)),
+            1 => (0, 0),
+            _ => (0, 65_536 - start + 1),
+        };
+        Command::Save {
+            name,
+            page: page as u32,
+            start: start as u16,
+            transfer: random.draw() as u16,
+            sheet: random.bytes(length),
+        }
+    }
+
+    fn rename(&self, random: &mut Random, has: &impl Fn(u32) -> bool) -> Command {
+        let old_is_legal = |number: u32| number != 2 && has(number);
+        let new = if has(5) {
+            self.standing_name(random)
+        } else if has(2) {
+            illegal_name(random)
+        } else {
+            self.absent.clone()
+        };
+        // The old name is the illegal one if the new one has to stand.
+        let old = if has(5) || (!has(4) && !has(6) && random.one_in(2)) {
+            self.old_name(random, has)
+        } else {
+            self.old_name(random, &old_is_legal)
+        };
+        Command::Rename { old, new }
+    }
+}
+
+fn distinct_names(random: &mut Random) -> [Vec<u8>; 5] {
+    let mut names: [Vec<u8>; 5] = Default::default();
+    for at in 0..names.len() {
+        while names[at].is_empty() || names[..at].contains(&names[at]) {
+            names[at] = fresh_name(random);
+        }
+    }
+    names
+}
+
+fn lent(random: &mut Random, lengths: std::ops::Range<usize>) -> Buffer {
+    Buffer {
+        length: random.between(lengths.start, lengths.end - 1),
+        fill: random.byte(),
+    }
+}
+
+fn disc_name(random: &mut Random, illegal: bool) -> Vec<u8> {
+    const LEGAL: [&[u8]; 3] = [b"A", b"PIECES", b"NINECHARS"];
+    const ILLEGAL: [&[u8]; 6] = [b"", b"TENCHARS10", b"A.B", b"lower", b"A B", b"A\0"];
+    if illegal {
+        random.pick(&ILLEGAL).to_vec()
+    } else {
+        random.pick(&LEGAL).to_vec()
+    }
+}
+
+/// On the disc means on its first track, which every image here has.
+fn view(random: &mut Random, off_the_disc: bool) -> Command {
+    let (track, sector) = match random.below(2) {
+        _ if !off_the_disc => (0, random.between(1, 10) as u32),
+        0 => (random.pick(&[80, 255, 256, u32::MAX]), 1),
+        _ => (0, random.pick(&[0, 11, 256, 257, u32::MAX])),
+    };
+    Command::View { track, sector }
+}
+
+#[cfg(test)]
+mod tests {
+    use super::*;
+
+    #[test]
+    fn the_second_program_answers_as_expected() {
+        let mut random = Random::new(6);
+        for _ in 0..5000 {
+            let case = Case::draw(&mut random);
+            let number = case.command.run(&mut case.image.clone()).number();
+            let expected = case.expected_number();
+            assert_eq!(number, expected, "{:?} {:?}", case.refusals, case.command);
+        }
+    }
+}
