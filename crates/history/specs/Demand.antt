@@ -91,7 +91,7 @@ module _ (F : Format) (f : SoundFormat F) (s : List ℕ) (G : Geometry) (g : geo
   unfolding step accepted afterSave afterDelete afterRename afterProtect
   step-at image b (list buffer) h a = asking image b (list buffer) _ refl a
   step-at image b (read name buffer) h a = asking image b (read name buffer) _ refl a
-  step-at image b (save name m) h a = writing image b (save name m) (λ G d. saveOn G d name m) a (λ ws p. save-state bounded (a .state) name m ws (h .3) p)
+  step-at image b (save name m) h a = writing image b (save name m) (λ G d. saveOn G d name m) a (λ ws p. save-state bounded (a .state) name m ws h p)
   step-at image b (delete name) h a = writing image b (delete name) (λ G d. deleteOn G d name) a (λ ws p. delete-state bounded (a .state) name ws p)
   step-at image b (rename old new) h a = writing image b (rename old new) (λ G d. renameOn G d old new) a (λ ws p. rename-state bounded (a .state) old new ws p)
   step-at image b (protect name v) h a = writing image b (protect name v) (λ G d. protectOn G d name v) a (λ ws p. protect-state bounded (a .state) name v ws p)

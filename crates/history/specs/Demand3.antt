@@ -10,7 +10,6 @@ use mathlib.Core.Bool.{Bool, true, false, _&&_}
 use mathlib.Core.Option.{some}
 use mathlib.Core.List.{List, [], _∷_}
 use lib.ListN.{length, take, getElem?}
-use lib.Dec.{T, ltb}
 use Rattle.format.specs.Lists.{all, any, times}
 use Rattle.format.specs.Refusals.{ABSENT, refused, ok, number}
 use Rattle.format.specs.Geometry.{Format, Geometry, geometry, sectors, Disc, cut}
@@ -24,22 +23,18 @@ use Rattle.history.specs.History.{Command, list, read, save, delete, ren
 abbrev pub isSound : CheckAnswer
 isSound = record { number = 0; rule = 0 }
 
--- The arguments are what the calls' types hold: bytes, and start and transfer of sixteen bits.
-abbrev pub Bytes : List ℕ → Type 0
-Bytes xs = T (all (λ b. ltb b 256) xs)
-
--- so of a command
+-- A transfer address has sixteen bits, as the call's type holds it. Nothing else is asked of the arguments.
 abbrev pub Handed : Command → Type 0
-Handed (list buffer) = Bytes buffer
-Handed (read name buffer) = Bytes name × Bytes buffer
-Handed (save name m) = Bytes name × Bytes (m .bytes) × (m .start < 65536) × (m .transfer < 65536)
-Handed (delete name) = Bytes name
-Handed (rename old new) = Bytes old × Bytes new
-Handed (protect name on) = Bytes name
+Handed (list buffer) = Unit {0}
+Handed (read name buffer) = Unit {0}
+Handed (save name m) = m .transfer < 65536
+Handed (delete name) = Unit {0}
+Handed (rename old new) = Unit {0}
+Handed (protect name on) = Unit {0}
 Handed check = Unit {0}
 Handed (view t s) = Unit {0}
 
--- and of each command of a list
+-- so of each command of a list
 abbrev pub AllHanded : List Command → Type 0
 AllHanded [] = Unit {0}
 AllHanded (c ∷ cs) = Handed c × AllHanded cs

@@ -31,7 +31,8 @@ pub data Command : Type 0 where
   view : (track sector : ℕ) → Command
 
 module _ (F : Format) where
-  -- what a command answers, and the image as it leaves it: the definitions that the public calls' contracts cite
+  -- What a command answers, and the image as it leaves it: the definitions that the public calls' contracts cite. List, read, check and view
+  -- are lent the image to read only: their types say that it stays.
   unfoldable pub step : List ℕ → Command → Answer
   step image (list buffer) = answered (afterList F image buffer .number) image
   step image (read name buffer) = answered (afterRead F image name buffer .number) image
@@ -100,7 +101,7 @@ openingBook G d =
     let fs : List File = map (λ s. record { name = nameOf s; count = lengthOf s; reading = reading G d s }) (entries G d) in
     record { files = fs; peak = length fs }
 
--- the book after a list of commands, fed each command and its answer
+-- the book after a list of commands, fed each command and its answer; the image is there only to be asked for the answers
 unfoldable pub bookAfter : Format → Book → List ℕ → List Command → Book
 bookAfter F b image [] = b
 bookAfter F b image (c ∷ cs) = bookAfter F (entered b c (step F image c .number)) (step F image c .image) cs
