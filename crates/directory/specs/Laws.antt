@@ -2,27 +2,23 @@
 -- Assumes nothing.
 use mathlib.Core.Path.{_≡_, refl, sym, ap, ap₂, _∙_}
 use mathlib.Core.Logic.{_≢_}
-use Prim.Native.Nat.{ℕ, suc, _+_, _*_, _-_, _≤_, _<_}
+use Prim.Native.Nat.{ℕ, _+_, _-_, _<_}
 use native.Mathlib.Omega.{arith}
-use native.Mathlib.Numerals.{add-one}
 use mathlib.Core.Bool.{Bool, true, false, not, true≢false}
-use mathlib.Core.Option.{Option, none, some}
-use mathlib.Core.List.{List, [], _∷_, _++_, map, head?}
-use lib.ListN.{drop}
-use lib.Seq.{getD-take, getD-drop}
-use Rattle.format.specs.Lists.{byte, wordAt, same, consIf, filter, range}
+use mathlib.Core.Option.{none, some}
+use mathlib.Core.List.{List, [], _∷_, _++_, head?}
+use lib.Seq.{getD-take}
+use Rattle.format.specs.Lists.{byte, same, consIf, filter}
 use Rattle.format.specs.ListLaws.{and-true, filter-join, filter-yes, filter-no, same-true}
-use Rattle.format.specs.Geometry.{Geometry, Next, stop, go, off, Disc, sector, pointed}
+use Rattle.format.specs.Geometry.{Geometry, Next, stop, go, off, Disc, sector}
 use Rattle.format.specs.ChainLaws.{met-stop, met-off, met-none, met-go}
-use Rattle.format.specs.Names.{letter, stored, legalStored}
-use Rattle.format.specs.NameLaws.{stored-legal}
-use Rattle.format.specs.Layout.{slotsEach, slotStart, Slot, emptySlot, freeSlot, inUse, nameOf, slotAt, slotsAt, slotsOf, linkOf, pairAt, met, directoryPointer, directory, slots, entries, find, openSlot}
+use Rattle.format.specs.Names.{letter, legalStored}
+use Rattle.format.specs.Layout.{slotsEach, Slot, emptySlot, freeSlot, inUse, nameOf, slotAt, slotsAt, slotsOf, linkOf, met, directoryPointer, directory, slots, entries, find, openSlot}
 use Rattle.disc.specs.Meaning.{geo, meaning, sectorsOf, Image}
 use Rattle.disc.specs.Laws.{inside}
 use Rattle.disc.specs.declared.Geometry as code
 use Rattle.disc.specs.declared.Link.{Link}
-use Rattle.names.specs.Answer.{parsed}
-use Rattle.names.specs.declared.Parsed.{Parsed}
+use Rattle.slots.specs.InOrder.{slotsFrom, slots-next}
 use Rattle.directory.specs.Meaning.{restOf, Started, Met, firstThat}
 use Rattle.directory.specs.declared.Walk.{Walk}
 
@@ -65,25 +61,6 @@ module _ (g : code.Geometry) (image : List ℕ) (w : Walk) where
   unfolding restOf
   rest-off e = ap (met (geo g) (sectorsOf g image) (w .left)) e ∙ met-off (geo g) (sectorsOf g image) (w .left)
 
--- ---- the slots of a sector, one after the other
-
--- those of sector n from slot i on
-unfoldable pub slotsFrom : Disc → ℕ → ℕ → List Slot
-slotsFrom d n i = map (slotAt d n) (range i (slotsEach - i))
-
-module _ (d : Disc) (n : ℕ) where
-  pub slots-all : slotsAt d n ≡ slotsFrom d n 0
-  unfolding slotsFrom slotsAt
-  slots-all = refl
-
-  pub slots-step : (i : ℕ) → i < slotsEach → slotsFrom d n i ≡ slotAt d n i ∷ slotsFrom d n (i + 1)
-  unfolding slotsFrom
-  slots-step i h = let e : slotsEach - i ≡ suc (slotsEach - (i + 1)) = omega arith in rw (e, ← add-one i)
-
-  pub slots-end : (i : ℕ) → slotsEach ≤ i → slotsFrom d n i ≡ []
-  unfolding slotsFrom
-  slots-end i h = let e : slotsEach - i ≡ 0 = omega arith in rw e
-
 -- ---- the slots of sectors
 
 pub slots-none : (d : Disc) → slotsOf d [] ≡ []
@@ -104,10 +81,10 @@ module _ (p : Slot → Bool) where
   -- among the slots of sector n from slot i on
   module _ (d : Disc) (n i : ℕ) (h : i < slotsEach) where
     pub first-here : p (slotAt d n i) ≡ true → firstThat p (slotsFrom d n i) ≡ some (slotAt d n i)
-    first-here e = ap (firstThat p) (slots-step d n i h) ∙ ap head? (filter-yes p (slotAt d n i) (slotsFrom d n (i + 1)) e)
+    first-here e = ap (firstThat p) (slots-next d n i h) ∙ ap head? (filter-yes p (slotAt d n i) (slotsFrom d n (i + 1)) e)
 
     pub first-next : p (slotAt d n i) ≡ false → firstThat p (slotsFrom d n i) ≡ firstThat p (slotsFrom d n (i + 1))
-    first-next e = ap (firstThat p) (slots-step d n i h) ∙ ap head? (filter-no p (slotAt d n i) (slotsFrom d n (i + 1)) e)
+    first-next e = ap (firstThat p) (slots-next d n i h) ∙ ap head? (filter-no p (slotAt d n i) (slotsFrom d n (i + 1)) e)
 
   head-left : (s : Slot) (xs ys : List Slot) → head? xs ≡ some s → head? (xs ++ ys) ≡ some s
   head-left s [] ys e = cc
@@ -161,31 +138,3 @@ named-used nine legal s named = by (freeSlot s) refl
 pub find-first : (G : Geometry) (d : Disc) (nine : List ℕ) → legalStored nine ≡ true → find G d nine ≡ firstThat (λ s. same (nameOf s) nine) (slots G d)
 unfolding find entries inUse
 find-first G d nine legal = ap head? (filter-filter (λ s. same (nameOf s) nine) (λ s. not (freeSlot s)) (named-used nine legal) (slots G d))
-
--- what `names::file_name` accepts is a legal name
-pub parsed-legal : (typed : List ℕ) (p : Parsed) → p ≡ parsed (stored typed) → p .ok ≡ true → legalStored (p .name .bytes) ≡ true
-parsed-legal typed p e ok = by (stored typed) refl
-  where
-    by : (o : Option (List ℕ)) → stored typed ≡ o → legalStored (p .name .bytes) ≡ true
-    by none s = absurd (true≢false (sym ok ∙ ap (λ (q : Parsed). q .ok) (e ∙ ap parsed s)))
-    by (some nine) s = ap (λ (q : Parsed). legalStored (q .name .bytes)) (e ∙ ap parsed s) ∙ stored-legal typed nine s
-
--- ---- the bytes of an entry
-
-module _ (d : Disc) (n i k : ℕ) where
-  -- byte j of slot i by its place in the sector
-  pub slot-byte : (j : ℕ) → k ≡ slotStart i → j < 16 → byte (sector d n) (k + j) ≡ byte (slotAt d n i .bytes) j
-  unfolding slotAt
-  slot-byte j e h =
-      ap (λ (k : ℕ). byte (sector d n) (k + j)) e
-      ∙ sym (getD-take 16 (drop (slotStart i) (sector d n)) j 0 h ∙ getD-drop (slotStart i) (sector d n) j 0)
-
-  -- the byte after it
-  slot-byte-next : (j : ℕ) → k ≡ slotStart i → j + 1 < 16 → byte (sector d n) (k + j + 1) ≡ byte (slotAt d n i .bytes) (j + 1)
-  slot-byte-next j e h = let next : k + j + 1 ≡ k + (j + 1) = omega arith in ap (byte (sector d n)) next ∙ slot-byte (j + 1) e h
-
-  pub slot-word : (j : ℕ) → k ≡ slotStart i → j + 1 < 16 → wordAt (sector d n) (k + j) ≡ wordAt (slotAt d n i .bytes) j
-  slot-word j e h = ap₂ (λ (low high : ℕ). low + 256 * high) (slot-byte j e (omega arith)) (slot-byte-next j e h)
-
-  pub slot-pair : (G : Geometry) (j : ℕ) → k ≡ slotStart i → j + 1 < 16 → pairAt G (sector d n) (k + j) ≡ pairAt G (slotAt d n i .bytes) j
-  slot-pair G j e h = ap₂ (pointed G) (slot-byte-next j e h) (slot-byte j e (omega arith))

@@ -19,8 +19,9 @@ use Rattle.format.specs.Check.{goodEntry, counted, rule3}
 use Rattle.disc.specs.Meaning.{geo, sectorsOf, Valid, Image}
 use Rattle.disc.specs.declared.Geometry as code
 use Rattle.slots.specs.Laws.{part-cut, name-front}
-use Rattle.entries.specs.Fields.{slot-byte, slot-word}
-use Rattle.entries.specs.Entries.{use-join, slotsFrom, slots-all, use-next-free, use-next-used, use-over}
+use Rattle.slots.specs.Fields.{slot-byte, slot-word}
+use Rattle.entries.specs.Entries.{use-next-free, use-next-used, use-over}
+use Rattle.slots.specs.InOrder.{use-join, slotsFrom, slots-all}
 
 -- ---- letters, then spaces, from byte i to byte e of an image
 

@@ -13,7 +13,8 @@ ghost use Rattle.format.specs.Layout.{slotsEach, isAttribute, inUse, slotAt, di
 ghost use Rattle.format.specs.Names.{space, spaced, legalStored};
 ghost use Rattle.format.specs.Check.{goodEntry, rule3, rule4};
 ghost use Rattle.disc.specs.Meaning.{geo, sectorsOf, meaning, Inside, Image};
-ghost use Rattle.entries.specs.Entries.{slotsFrom, entriesFrom};
+ghost use Rattle.entries.specs.Entries.{entriesFrom};
+ghost use Rattle.slots.specs.InOrder.{slotsFrom};
 ghost use Rattle.entries.specs.Good.{goodSector};
 ghost use Rattle.entries.specs.Differ.{named, apart};
 

@@ -16,7 +16,7 @@ use Rattle.format.specs.Geometry.{Geometry, sectors, Next, Disc, sector}
 use Rattle.format.specs.Layout.{slotStart, lengthPlace, firstPlace, lastPlace, Slot, lengthOf, slotAt, pairAt, chain, chainEnds, firstOf, lastOf, fileChain}
 use Rattle.format.specs.ChainLaws.{met-few}
 use Rattle.format.specs.Check.{at?, goodChain}
-use Rattle.entries.specs.Fields.{slot-word, slot-pair}
+use Rattle.slots.specs.Fields.{slot-word, slot-pair}
 use Rattle.entries.specs.Good.{test-join, and-exchange}
 use Rattle.fsck.specs.Marks.{marked, fresh, marked-join, fresh-join}
 use Rattle.fsck.specs.Walks.{Walked, ended, walk-broken, walk-ended}

@@ -13,7 +13,7 @@ ghost use Rattle.format.specs.Layout.{slotsEach, inUse, slotAt, directory, entr
 ghost use Rattle.format.specs.Check.{at?, elsewhere, broken, sound};
 ghost use Rattle.format.specs.Calls.{afterCheck};
 ghost use Rattle.disc.specs.Meaning.{geo, sectorsOf, meaning, Inside, Image};
-ghost use Rattle.entries.specs.Entries.{slotsFrom};
+ghost use Rattle.slots.specs.InOrder.{slotsFrom};
 ghost use Rattle.fsck.specs.Marks.{clear};
 ghost use Rattle.fsck.specs.Walks.{Walked};
 ghost use Rattle.fsck.specs.Files.{Filed};

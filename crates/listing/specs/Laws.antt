@@ -8,7 +8,7 @@ use mathlib.Core.List.{List, [], _∷_, _++_, map, append-assoc, append-nil}
 use lib.ListN.{length, take, drop, length-append, length-drop}
 use lib.Seq.{length-take-le}
 use Rattle.format.specs.Lists.{word, consIf, filter, joined}
-use Rattle.format.specs.ListLaws.{All, done, _also_, all-map, all-filter, all-joined, all-mapped, range-all, filter-join, filter-yes, filter-no, joined-join}
+use Rattle.format.specs.ListLaws.{All, done, _also_, all-map, all-filter, all-joined, all-mapped, range-all, joined-join}
 use Rattle.format.specs.Geometry.{Geometry, sectors, startOf, Disc, sector}
 use Rattle.format.specs.GeometryLaws.{pointed-on, sector-full, cut-full}
 use Rattle.format.specs.ChainLaws.{met-few, met-below}
@@ -17,31 +17,20 @@ use Rattle.format.specs.Effects.{listing}
 use Rattle.disc.specs.Meaning.{geo, sectorsOf, Image}
 use Rattle.disc.specs.declared.Geometry as code
 use Rattle.slots.specs.Laws.{name-front, name-nine, part-cut}
-use Rattle.directory.specs.Laws.{slotsFrom, slots-step, slots-end, slots-none, slots-cons}
+use Rattle.slots.specs.InOrder.{slotsFrom, slots-next, slots-end, use-join, use-free, use-used}
+use Rattle.directory.specs.Laws.{slots-none, slots-cons}
 use Rattle.listing.specs.Meaning.{discRecord, entryRecord, recordsOf}
 
 -- ---- entries and records, slot by slot
 
-used-join : (xs ys : List Slot) → inUse (xs ++ ys) ≡ inUse xs ++ inUse ys
-unfolding inUse
-used-join xs ys = filter-join (λ s. not (freeSlot s)) xs ys
-
 module _ (s : Slot) where
-  pub used-none : freeSlot s ≡ true → inUse (s ∷ []) ≡ []
-  unfolding inUse
-  used-none e = filter-no (λ s. not (freeSlot s)) s [] (ap not e)
-
-  pub used-one : freeSlot s ≡ false → inUse (s ∷ []) ≡ s ∷ []
-  unfolding inUse
-  used-one e = filter-yes (λ s. not (freeSlot s)) s [] (ap not e)
-
   pub records-free : freeSlot s ≡ true → recordsOf (s ∷ []) ≡ []
   unfolding recordsOf
-  records-free e = ap (λ (ss : List Slot). joined (map entryRecord ss)) (used-none e)
+  records-free e = ap (λ (ss : List Slot). joined (map entryRecord ss)) (use-free s e)
 
   pub records-one : freeSlot s ≡ false → recordsOf (s ∷ []) ≡ entryRecord s
   unfolding recordsOf
-  records-one e = ap (λ (ss : List Slot). joined (map entryRecord ss)) (used-one e) ∙ append-nil (entryRecord s)
+  records-one e = ap (λ (ss : List Slot). joined (map entryRecord ss)) (use-used s e) ∙ append-nil (entryRecord s)
 
 pub records-none : recordsOf [] ≡ []
 unfolding recordsOf inUse
@@ -49,19 +38,19 @@ records-none = refl
 
 records-join : (xs ys : List Slot) → recordsOf (xs ++ ys) ≡ recordsOf xs ++ recordsOf ys
 unfolding recordsOf
-records-join xs ys = ap (λ (ss : List Slot). joined (map entryRecord ss)) (used-join xs ys) ∙ joined-join entryRecord (inUse xs) (inUse ys)
+records-join xs ys = ap (λ (ss : List Slot). joined (map entryRecord ss)) (use-join xs ys) ∙ joined-join entryRecord (inUse xs) (inUse ys)
 
 module _ (d : Disc) where
   -- the slots of a sector from slot i on
   module _ (n i : ℕ) (h : i < slotsEach) where
     pub used-step : length (inUse (slotsFrom d n i)) ≡ length (inUse (slotAt d n i ∷ [])) + length (inUse (slotsFrom d n (i + 1)))
     used-step =
-        ap (λ (ss : List Slot). length (inUse ss)) (slots-step d n i h)
-        ∙ ap length (used-join (slotAt d n i ∷ []) (slotsFrom d n (i + 1)))
+        ap (λ (ss : List Slot). length (inUse ss)) (slots-next d n i h)
+        ∙ ap length (use-join (slotAt d n i ∷ []) (slotsFrom d n (i + 1)))
         ∙ length-append (inUse (slotAt d n i ∷ [])) (inUse (slotsFrom d n (i + 1)))
 
     pub records-step : recordsOf (slotsFrom d n i) ≡ recordsOf (slotAt d n i ∷ []) ++ recordsOf (slotsFrom d n (i + 1))
-    records-step = ap recordsOf (slots-step d n i h) ∙ records-join (slotAt d n i ∷ []) (slotsFrom d n (i + 1))
+    records-step = ap recordsOf (slots-next d n i h) ∙ records-join (slotAt d n i ∷ []) (slotsFrom d n (i + 1))
 
   pub used-end : (n i : ℕ) → slotsEach ≤ i → length (inUse (slotsFrom d n i)) ≡ 0
   unfolding inUse
@@ -72,7 +61,7 @@ module _ (d : Disc) where
     pub used-cons : length (inUse (slotsOf d (n ∷ ns))) ≡ length (inUse (slotsAt d n)) + length (inUse (slotsOf d ns))
     used-cons =
         ap (λ (ss : List Slot). length (inUse ss)) (slots-cons d n ns)
-        ∙ ap length (used-join (slotsAt d n) (slotsOf d ns))
+        ∙ ap length (use-join (slotsAt d n) (slotsOf d ns))
         ∙ length-append (inUse (slotsAt d n)) (inUse (slotsOf d ns))
 
     pub records-cons : recordsOf (slotsOf d (n ∷ ns)) ≡ recordsOf (slotsAt d n) ++ recordsOf (slotsOf d ns)

@@ -3,16 +3,14 @@
 use borrow.Author.Needs.{needs}
 use borrow.Author.Tests.{not-true, not-false}
 use Prim.Native.Nat.{ℕ}
-use mathlib.Core.Path.{_≡_, sym, ap, subst, _∙_}
-use mathlib.Core.Bool.{true}
+use mathlib.Core.Path.{sym, ap, subst, _∙_}
 use mathlib.Core.Option.{Option, some}
 use mathlib.Core.List.{List}
 use Rattle.format.specs.Refusals.{NAME}
-use Rattle.format.specs.Names.{stored, legalStored}
-use Rattle.format.specs.NameLaws.{stored-legal}
+use Rattle.format.specs.Names.{stored}
 use Rattle.disc.specs.Meaning.{geo, sectorsOf}
 use Rattle.names.specs.declared.Parsed.{Parsed}
-use Rattle.names.specs.Answer.{parsed-none, parsed-some}
+use Rattle.names.specs.Answer.{parsed-none, parsed-some, parsed-legal}
 use Rattle.lookup.specs.declared.Judged.{Judged}
 use Rattle.lookup.specs.Meaning.{entryOn, Judges, Leaves}
 use Rattle.lookup.specs.Laws.{refuses-is, refuses-leaves}
@@ -44,11 +42,9 @@ rename-entry-requires : tie.Need-rename-entry-requires
 rename-entry-requires c κs =
     let a = c .before .before .before .before .before .before .before .before .before .before .before .before .before .args in
     let d = sectorsOf (a .g) (a .image .now) in
-    let o : Option (List ℕ) = stored (a .new .now) in
     let named = c .before .before .before .before .before .before .before .before .before .file-name .ensures in
-    let is = parsed-some o (sym (ap (λ (r : Parsed). r .ok) named) ∙ not-false _ (c .before .before .before .before .before .before .before .if1 .left)) in
     let judged = subst (λ (r : Judged). Judges (a .g) (a .image .now) r (entryOn (geo (a .g)) d (a .old .now))) (c .before .before .n .given .1) (c .before .before .before .before .entry-on .ensures) in
-    (c .before .before .before .before .before .before .before .before .before .before .before .before .before .pre, judged .1, judged .2, subst (λ (r : Parsed). legalStored (r .name .bytes) ≡ true) (sym named) (stored-legal (a .new .now) _ is))
+    (c .before .before .before .before .before .before .before .before .before .before .before .before .before .pre, judged .1, judged .2, parsed-legal (a .new .now) _ named (not-false _ (c .before .before .before .before .before .before .before .if1 .left)))
 
 same-length : tie.Need-same-length
 same-length c = search needs

@@ -2,12 +2,12 @@
 -- Assumes nothing.
 use borrow.Author.Needs.{needs}
 use native.Mathlib.Omega.{arith}
-use mathlib.Core.Path.{_∙_}
+use mathlib.Core.Path.{sym, _∙_}
 use Rattle.format.specs.Geometry.{Disc}
 use Rattle.format.specs.Layout.{lengthPlace, firstPlace, lastPlace, attributePlace}
 use Rattle.disc.specs.Meaning.{geo, sectorsOf}
 use Rattle.disc.specs.Laws.{inside}
-use Rattle.directory.specs.Laws.{slot-byte, slot-word, slot-pair}
+use Rattle.slots.specs.Fields.{slot-byte, slot-word, slot-pair}
 use Rattle.directory.proofs.entry_of.Statement.{statement}
 use Rattle.directory.proofs.entry_of.Tie as tie
 
@@ -45,10 +45,10 @@ returns c =
     let k = c .before .before .before .before .slot-start .result in
     let at = c .before .before .before .before .slot-start .ensures in
     record {
-      length-is = c .before .before .before .word-of .ensures ∙ slot-word d (a .n .0) (a .i) k lengthPlace at (omega arith);
-      first-is = c .before .before .pair-of .ensures ∙ slot-pair d (a .n .0) (a .i) k (geo (a .g)) firstPlace at (omega arith);
-      last-is = c .before .pair-of2 .ensures ∙ slot-pair d (a .n .0) (a .i) k (geo (a .g)) lastPlace at (omega arith);
-      attribute-is = c .byte-of .ensures ∙ slot-byte d (a .n .0) (a .i) k attributePlace at (omega arith);
+      length-is = c .before .before .before .word-of .ensures ∙ sym (slot-word d (a .n .0) (a .i) k at lengthPlace (omega arith));
+      first-is = c .before .before .pair-of .ensures ∙ sym (slot-pair d (a .n .0) (a .i) k at firstPlace (omega arith) (geo (a .g)));
+      last-is = c .before .pair-of2 .ensures ∙ sym (slot-pair d (a .n .0) (a .i) k at lastPlace (omega arith) (geo (a .g)));
+      attribute-is = c .byte-of .ensures ∙ sym (slot-byte d (a .n .0) (a .i) k at attributePlace (omega arith));
       first-inside = inside (c .before .before .before .before .before .before .pre .0 .valid) (c .before .before .pair-of .result) _ _ (c .before .before .pair-of .ensures);
       last-inside = inside (c .before .before .before .before .before .before .pre .0 .valid) (c .before .pair-of2 .result) _ _ (c .before .pair-of2 .ensures);
     }

@@ -8,7 +8,8 @@ use Rattle.format.specs.Geometry.{Disc}
 use Rattle.format.specs.Layout.{slotsEach, slotsAt}
 use Rattle.disc.specs.Meaning.{sectorsOf}
 use Rattle.directory.specs.Meaning.{wantedOf, firstThat}
-use Rattle.directory.specs.Laws.{slotsFrom, slots-all, slots-end, first-here, first-next}
+use Rattle.slots.specs.InOrder.{slotsFrom, slots-all, slots-end}
+use Rattle.directory.specs.Laws.{first-here, first-next}
 use Rattle.directory.proofs.search_sector.Statement.{statement}
 use Rattle.directory.proofs.search_sector.Tie as tie
 

@@ -6,7 +6,8 @@ use mathlib.Core.Path.{_≡_, refl}
 use borrow.Author.Tests.{not-true, not-false}
 use Rattle.format.specs.Layout.{slotsEach, inUse}
 use Rattle.disc.specs.Meaning.{geo, sectorsOf, meaning}
-use Rattle.entries.specs.Entries.{slotsFrom, entriesFrom, use-next, use-over}
+use Rattle.entries.specs.Entries.{entriesFrom, use-next, use-over}
+use Rattle.slots.specs.InOrder.{slotsFrom}
 use Rattle.entries.specs.Differ.{apart, apart-over, apart-not, apart-next}
 use Rattle.entries.proofs.sector_differs.Statement.{statement}
 use Rattle.entries.proofs.sector_differs.Tie as tie

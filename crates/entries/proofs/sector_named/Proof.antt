@@ -5,7 +5,8 @@ use Prim.Native.Nat.{_-_, _≤_}
 use mathlib.Core.Path.{_≡_, refl}
 use Rattle.format.specs.Layout.{slotsEach, inUse, slotAt}
 use Rattle.disc.specs.Meaning.{sectorsOf}
-use Rattle.entries.specs.Entries.{slotsFrom, use-next, use-over}
+use Rattle.entries.specs.Entries.{use-next, use-over}
+use Rattle.slots.specs.InOrder.{slotsFrom}
 use Rattle.entries.specs.Differ.{named, named-over, named-here, named-later}
 use Rattle.entries.proofs.sector_named.Statement.{statement}
 use Rattle.entries.proofs.sector_named.Tie as tie

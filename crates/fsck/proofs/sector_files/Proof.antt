@@ -6,7 +6,8 @@ use Prim.Native.Nat.{_*_, _-_, _≤_}
 use mathlib.Core.Path.{refl, sym, _∙_}
 use Rattle.format.specs.Layout.{slotsEach, inUse}
 use Rattle.disc.specs.Meaning.{geo, sectorsOf}
-use Rattle.entries.specs.Entries.{slotsFrom, use-over, use-next-free, use-next-used}
+use Rattle.entries.specs.Entries.{use-over, use-next-free, use-next-used}
+use Rattle.slots.specs.InOrder.{slotsFrom}
 use Rattle.fsck.specs.Marks.{marked}
 use Rattle.fsck.specs.Files.{filesOf, filed, at-most, Filing, filing-start, filing-over, filing-skip, filing-bad, filing-next}
 use Rattle.fsck.proofs.sector_files.Statement.{statement}

@@ -9,7 +9,7 @@ use lib.ListN.{length}
 use Rattle.format.specs.Geometry.{Disc}
 use Rattle.format.specs.Layout.{slotsEach, Slot, inUse, slotsAt}
 use Rattle.disc.specs.Meaning.{sectorsOf}
-use Rattle.directory.specs.Laws.{slotsFrom, slots-all}
+use Rattle.slots.specs.InOrder.{slotsFrom, slots-all}
 use Rattle.listing.specs.Laws.{used-step, used-few, used-end}
 use Rattle.listing.proofs.count_sector.Statement.{statement}
 use Rattle.listing.proofs.count_sector.Tie as tie

@@ -5,7 +5,7 @@ use mathlib.Core.Path.{sym, ap, _∙_}
 use lib.ListN.{length}
 use Rattle.format.specs.Layout.{Slot, slotAt}
 use Rattle.disc.specs.Meaning.{sectorsOf}
-use Rattle.listing.specs.Laws.{used-none, used-one}
+use Rattle.slots.specs.InOrder.{use-free, use-used}
 use Rattle.listing.proofs.count_slot.Statement.{statement}
 use Rattle.listing.proofs.count_slot.Tie as tie
 
@@ -16,13 +16,13 @@ returns : tie.Need-returns
 returns c =
     let a = c .before .before .before .args in
     let s : Slot = slotAt (sectorsOf (a .g) (a .image .now)) (a .n .0) (a .i) in
-    sym (ap length (used-none s (sym (c .before .slot-free .ensures) ∙ c .if1 .taken)))
+    sym (ap length (use-free s (sym (c .before .slot-free .ensures) ∙ c .if1 .taken)))
 
 returns-2 : tie.Need-returns-2
 returns-2 c =
     let a = c .before .before .before .args in
     let s : Slot = slotAt (sectorsOf (a .g) (a .image .now)) (a .n .0) (a .i) in
-    sym (ap length (used-one s (sym (c .before .slot-free .ensures) ∙ c .if1 .left)))
+    sym (ap length (use-used s (sym (c .before .slot-free .ensures) ∙ c .if1 .left)))
 
 pub count-slot-spec : {M : Type 1} → statement M
 count-slot-spec = tie.close (tie.spec slot-free-requires returns returns-2)

@@ -8,7 +8,7 @@ use mathlib.Core.List.{[], _∷_}
 use Rattle.format.specs.Geometry.{Disc}
 use Rattle.format.specs.Layout.{slotsEach, slotAt, slotsAt}
 use Rattle.disc.specs.Meaning.{sectorsOf}
-use Rattle.directory.specs.Laws.{slotsFrom, slots-all, slots-end}
+use Rattle.slots.specs.InOrder.{slotsFrom, slots-all, slots-end}
 use Rattle.listing.specs.Meaning.{recordsOf}
 use Rattle.listing.specs.Laws.{records-none, records-step}
 use Rattle.listing.specs.Storing.{Storing, storing-all, storing-step, storing-room, storing-end}

@@ -3,17 +3,15 @@
 use borrow.Author.Needs.{needs}
 use borrow.Author.Tests.{not-true, not-false}
 use Prim.Native.Nat.{ℕ}
-use mathlib.Core.Path.{_≡_, sym, ap, subst, _∙_}
-use mathlib.Core.Bool.{true}
+use mathlib.Core.Path.{sym, ap, subst, _∙_}
 use mathlib.Core.Option.{Option}
 use mathlib.Core.List.{List}
 use Rattle.format.specs.Refusals.{NAME, UNSOUND, ABSENT}
-use Rattle.format.specs.Names.{stored, legalStored}
-use Rattle.format.specs.NameLaws.{stored-legal}
+use Rattle.format.specs.Names.{stored}
 use Rattle.format.specs.Layout.{find}
 use Rattle.disc.specs.Meaning.{geo, sectorsOf}
 use Rattle.names.specs.declared.Parsed.{Parsed}
-use Rattle.names.specs.Answer.{parsed-none, parsed-some}
+use Rattle.names.specs.Answer.{parsed-none, parsed-some, parsed-legal}
 use Rattle.directory.specs.Meaning.{foundOf, Within}
 use Rattle.lookup.specs.Laws.{entry-name, entry-unsound, entry-find, found-ok, found-none, refuses-is}
 use Rattle.lookup.proofs.entry_on.Statement.{statement}
@@ -46,13 +44,8 @@ returns-2 c =
 
 find-requires : tie.Need-find-requires
 find-requires c κs =
-    let a = c .before .before .before .before .before .before .before .before .args in
-    let G = geo (a .g) in
-    let d = sectorsOf (a .g) (a .image .now) in
-    let o : Option (List ℕ) = stored (a .name .now) in
-    let flag = sym (ap (λ (r : Parsed). r .ok) (c .before .before .before .before .before .file-name .ensures)) in
-    let some = parsed-some o (flag ∙ not-false _ (c .before .before .before .if1 .left)) in
-    (c .before .before .before .before .before .before .before .before .pre, subst (λ (r : Parsed). legalStored (r .name .bytes) ≡ true) (sym (c .before .before .before .before .before .file-name .ensures)) (stored-legal (a .name .now) _ some))
+    let named = c .before .before .before .before .before .file-name .ensures in
+    (c .before .before .before .before .before .before .before .before .pre, parsed-legal (c .before .before .before .before .before .before .before .before .args .name .now) _ named (not-false _ (c .before .before .before .if1 .left)))
 
 enum-known-n : tie.Need-enum-known-n
 enum-known-n c = search needs

@@ -4,17 +4,15 @@ use borrow.Author.Needs.{needs}
 use borrow.Author.Tests.{not-true, not-false}
 use native.Mathlib.Omega.{arith}
 use Prim.Native.Nat.{ℕ}
-use mathlib.Core.Path.{_≡_, sym, ap, subst, _∙_}
-use mathlib.Core.Bool.{true}
+use mathlib.Core.Path.{sym, ap, subst, _∙_}
 use mathlib.Core.Option.{Option, some}
 use mathlib.Core.List.{List}
 use Rattle.format.specs.Refusals.{NAME, MODULE, UNSOUND}
-use Rattle.format.specs.Names.{stored, legalStored}
-use Rattle.format.specs.NameLaws.{stored-legal}
+use Rattle.format.specs.Names.{stored}
 use Rattle.format.specs.ModuleLaws.{allowed-true}
 use Rattle.disc.specs.Meaning.{geo, sectorsOf}
 use Rattle.names.specs.declared.Parsed.{Parsed}
-use Rattle.names.specs.Answer.{parsed-none, parsed-some}
+use Rattle.names.specs.Answer.{parsed-none, parsed-some, parsed-legal}
 use Rattle.lookup.specs.Meaning.{Leaves}
 use Rattle.lookup.specs.Laws.{refuses-is, refuses-leaves}
 use Rattle.saving.specs.Meaning.{handed}
@@ -70,11 +68,8 @@ save-as-requires : tie.Need-save-as-requires
 save-as-requires c κs =
     let a = c .before .before .before .before .before .before .before .before .before .before .before .before .before .args in
     let m = handed (a .page) (a .start) (a .transfer) (a .sheet .now) in
-    let o : Option (List ℕ) = stored (a .name .now) in
-    let named = c .before .before .before .before .before .before .before .before .before .file-name .ensures in
-    let is = parsed-some o (sym (ap (λ (r : Parsed). r .ok) named) ∙ not-false _ (c .before .before .before .before .before .before .before .if1 .left)) in
     let yes = sym (c .before .before .before .before .before .is-allowed .ensures ∙ allowed-as m (omega arith)) ∙ not-false _ (c .before .before .before .before .if2 .left) in
-    (c .before .before .before .before .before .before .before .before .before .before .before .before .before .pre, sym (c .before .before .is-sound .ensures) ∙ not-false _ (c .before .if3 .left), subst (λ (r : Parsed). legalStored (r .name .bytes) ≡ true) (sym named) (stored-legal (a .name .now) _ is), allowed-true m yes)
+    (c .before .before .before .before .before .before .before .before .before .before .before .before .before .pre, sym (c .before .before .is-sound .ensures) ∙ not-false _ (c .before .if3 .left), parsed-legal (a .name .now) _ (c .before .before .before .before .before .before .before .before .before .file-name .ensures) (not-false _ (c .before .before .before .before .before .before .before .if1 .left)), allowed-true m yes)
 
 same-length-2 : tie.Need-same-length-2
 same-length-2 c = search needs
