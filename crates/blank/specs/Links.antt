@@ -1,22 +1,24 @@
 -- The links of a blank disc's free chain, one after the other, as the loop that writes them meets them.
 -- Assumes nothing.
-use mathlib.Core.Path.{_≡_, refl, sym, ap, ap₂, _∙_}
-use Prim.Native.Nat.{ℕ, suc, _+_, _*_, _/_, _%_, _-_, _≤_, _<_}
+use mathlib.Core.Path.{_≡_, refl, sym, ap, ap₂, subst, _∙_}
+use Prim.Native.Nat.{ℕ, zero, suc, _+_, _*_, _/_, _%_, _-_, _≤_, _<_}
 use native.Mathlib.Omega.{arith}
 use native.Mathlib.Numerals.{add-one}
 use native.Mathlib.Nat.{mod-lt}
-use mathlib.Core.Bool.{true, _&&_}
+use mathlib.Core.Bool.{true, not, _&&_, false≢true}
 use mathlib.Core.List.{List, [], _∷_, _++_}
-use lib.ListN.{length, getD, drop, replicate, drop-of-length-le}
-use lib.Seq.{drop-cons}
+use lib.ListN.{length, getD, drop, replicate, length-drop, drop-of-length-le}
+use lib.Seq.{drop-cons, getD-drop}
 use lib.Dec.{leb}
 use borrow.Author.Tests.{leb-true}
-use Rattle.format.specs.ListLaws.{and-true, all-true, all-getD}
+use Rattle.format.specs.Lists.{elem}
+use Rattle.format.specs.ListLaws.{All, and-true, all-true, all-getD, filter-all}
 use Rattle.format.specs.Geometry.{ten, tracked, sectors, sectorNumber, onDisc, stop, go, Write}
 use Rattle.format.specs.GeometryLaws.{on-disc, track-range}
 use Rattle.format.specs.Layout.{linkBytes}
-use Rattle.format.specs.Effects.{headOf, chained, passing, blankFree}
+use Rattle.format.specs.Effects.{headOf, chained, passing, blankDirectory, blankFree}
 use Rattle.disc.specs.Meaning.{geo, Valid}
+use Rattle.disc.specs.Laws.{number-on}
 use Rattle.disc.specs.declared.Geometry.{Geometry}
 use Rattle.blank.specs.Meaning.{Ten}
 use Rattle.blank.specs.Passing.{passing-at, passing-long, blank-free}
@@ -91,3 +93,20 @@ module _ {g : Geometry} (v : Valid g) (t : Ten g) where
   unfolding linksFrom
   links-whole =
       ap₂ (λ (ns : List ℕ) (n : ℕ). chained (geo g) ns (replicate (n - 2) (replicate 254 0))) (sym free-is) (v .total)
+
+  pub place-high : (k : ℕ) → k < g .sectors → getD (passing (geo g)) k 0 < g .sectors
+  place-high k h = subst (λ (n : ℕ). n < g .sectors) (sym (place-is k h)) (number-on v (k / geo g .perTrack) (getD (ten .order) (k % geo g .perTrack) 0) (place-on k h))
+
+  -- the sectors after the first two places are not 0/1
+  pub place-low : (k : ℕ) → 2 ≤ k → k < g .sectors → 0 < getD (passing (geo g)) k 0
+  unfolding blankFree
+  place-low k low high =
+      let j : ℕ = k - 2 in
+      let e : 2 + j ≡ k = omega arith in
+      let long : length (drop 2 (passing (geo g))) ≡ g .sectors - 2 = length-drop 2 (passing (geo g)) ∙ ap (λ (n : ℕ). n - 2) passing-as-long in
+      let kept = all-getD {P = λ n. not (elem n (0 ∷ blankDirectory (geo g) ∷ [])) ≡ true} j 0 (subst (All (λ n. not (elem n (0 ∷ blankDirectory (geo g) ∷ [])) ≡ true)) free-is (filter-all (λ n. not (elem n (0 ∷ blankDirectory (geo g) ∷ []))) (passing (geo g)))) (omega (arith, long)) in
+      not-system (getD (passing (geo g)) k 0) (subst (λ (n : ℕ). not (elem n (0 ∷ blankDirectory (geo g) ∷ [])) ≡ true) (getD-drop 2 (passing (geo g)) j 0 ∙ ap (λ (n : ℕ). getD (passing (geo g)) n 0) e) kept)
+    where
+      not-system : (n : ℕ) → not (elem n (0 ∷ blankDirectory (geo g) ∷ [])) ≡ true → 0 < n
+      not-system zero h = absurd (false≢true h)
+      not-system (suc n) h = omega arith

@@ -1,13 +1,18 @@
--- Zeros: a list that is cleared from the front, and the sectors of an image of zeros.
+-- Zeros: a list that is cleared from the front, the sectors of an image of zeros, and links written into them.
 -- Assumes nothing.
 use mathlib.Core.Path.{_≡_, refl, sym, ap, ap₂, _∙_}
-use Prim.Native.Nat.{ℕ, zero, suc, _+_, _*_, _<_}
+use Prim.Native.Nat.{ℕ, zero, suc, _+_, _*_, _≤_, _<_}
 use native.Mathlib.Omega.{arith}
+use native.Mathlib.Decide.{ℕ-discrete}
 use native.Mathlib.Numerals.{add-one}
 use mathlib.Core.List.{List, [], _∷_, _++_}
-use lib.ListN.{length, set, take, drop, replicate, replicate-append-replicate}
-use lib.Seq.{take-suc-set, take-at, drop-at}
-use Rattle.format.specs.Geometry.{Geometry, sectors, Disc, chunks, cut}
+use lib.ListN.{length, set, take, drop, replicate, replicate-append-replicate, getD-replicate, length-set, length-replicate}
+use lib.Seq.{sets, sets-eq, take-suc-set, take-at, drop-at}
+use Rattle.format.specs.Geometry.{Geometry, sectors, Disc, sector, chunks, cut}
+use Rattle.format.specs.GeometryLaws.{sector-other, sector-same}
+use Rattle.format.specs.Layout.{linkPlace}
+use Rattle.format.specs.Effects.{body}
+use Rattle.blank.specs.Meaning.{Bare}
 
 pub zeros-step : (xs : List ℕ) (i : ℕ) → i < length xs → take i xs ≡ replicate i 0 → take (i + 1) (set xs i 0) ≡ replicate (i + 1) 0
 zeros-step xs i h e =
@@ -31,3 +36,28 @@ chunks-zeros (suc n) =
 pub cut-zeros : (G : Geometry) (n : ℕ) → n ≡ 256 * sectors G → cut G (replicate n 0) ≡ replicate (sectors G) (replicate 256 0)
 unfolding cut
 cut-zeros G n e = ap (λ (k : ℕ). chunks (sectors G) (replicate k 0)) e ∙ chunks-zeros (sectors G)
+
+-- ---- links written into sectors of zeros
+
+-- the link of a sector, stored in it, and what stands after it
+pub link-stored : (s : List ℕ) (a b : ℕ) → 2 ≤ length s → body s ≡ replicate 254 0 → sets s linkPlace (a ∷ b ∷ []) ≡ a ∷ b ∷ replicate 254 0
+link-stored s a b h e = sets-eq (a ∷ b ∷ []) s 0 (omega arith) ∙ ap (λ (xs : List ℕ). a ∷ b ∷ xs) e
+
+-- zeros but for 0/1
+pub bare-zeros : (n : ℕ) (s : List ℕ) → Bare (set (replicate n (replicate 256 0)) 0 s)
+bare-zeros n s =
+    let zs : Disc = replicate n (replicate 256 0) in
+    let long : length (set zs 0 s) ≡ n = length-set zs 0 s ∙ length-replicate n (replicate 256 0) in
+    record { zeros = λ m low high. ap body (sector-other zs 0 m s (λ e. omega arith) ∙ getD-replicate n m (replicate 256 0) [] (omega (arith, long))) }
+
+-- one more link
+pub bare-set : (d : Disc) (n a b : ℕ) → Bare d → Bare (set d n (a ∷ b ∷ replicate 254 0))
+bare-set d n a b z =
+    let s : List ℕ = a ∷ b ∷ replicate 254 0 in
+    let long : length (set d n s) ≡ length d = length-set d n s in
+    record {
+      zeros = λ m low high. elim (ℕ-discrete m n) [
+        | yes e ↦ ap (λ (k : ℕ). body (sector (set d n s) k)) e ∙ ap body (sector-same d n s (omega (arith, e, long)))
+        | no e ↦ ap body (sector-other d n m s e) ∙ z .zeros m low (omega (arith, long))
+      ];
+    }

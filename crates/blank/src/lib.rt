@@ -10,10 +10,10 @@ ghost use mathlib.Core.List.{_++_};
 ghost use lib.ListN.{length, getD, set, drop, replicate};
 ghost use Rattle.format.specs.Geometry.{ten, sectors, go, sector, written};
 ghost use Rattle.format.specs.Layout.{linkBytes, pairBytes};
-ghost use Rattle.format.specs.Effects.{headOf, passing, chained, blankDirectory, blankFree, blankSystem, blankDisc};
+ghost use Rattle.format.specs.Effects.{body, headOf, passing, chained, blankDirectory, blankFree, blankSystem, blankDisc};
 ghost use Rattle.format.specs.Calls.{answered, afterBlank};
 ghost use Rattle.disc.specs.Meaning.{geo, meaning, sectorsOf, Valid, Inside, Image};
-ghost use Rattle.blank.specs.Meaning.{Ten, Passed};
+ghost use Rattle.blank.specs.Meaning.{Ten, Passed, Bare};
 
 // 0/1 and 0/4, which the chain passes first, are taken.
 const TAKEN: usize = 2;
@@ -50,18 +50,18 @@ fn clear(image: &mut [u8])
     }
 }
 
-// Writes the sector at place k: its link, and zeros after it.
+// Writes the link of the sector at place k, which has zeros after it.
 fn put_passed(image: &mut [u8], g: Geometry, k: usize)
-    requires { ⌜ Image g (now image) × Ten g × (k < g .sectors) ⌝ }
+    requires { ⌜ Image g (now image) × Ten g × (k < g .sectors) × (body (sector (sectorsOf g (now image)) (getD (passing (geo g)) k 0)) ≡ replicate 254 0) ⌝ }
     ensures { λ _. ⌜ sectorsOf g (now (image .exit)) ≡ set (sectorsOf g (now (image .entry))) (getD (passing (geo g)) k 0) (linkBytes (geo g) (headOf (drop (k + 1) (passing (geo g)))) ++ replicate 254 0) ⌝ }
 {
     let next = next_of(g, k);
-    modules::put_body(image, g, passed(g, k), next, b"", b"");
+    disc::put_link(image, g, passed(g, k), next);
 }
 
-// Writes the free chain.
+// Writes the links of the free chain into sectors of zeros.
 fn put_chain(image: &mut [u8], g: Geometry)
-    requires { ⌜ Image g (now image) × Ten g ⌝ }
+    requires { ⌜ Image g (now image) × Ten g × Bare (sectorsOf g (now image)) ⌝ }
     ensures { λ _. ⌜ sectorsOf g (now (image .exit)) ≡ written (chained (geo g) (blankFree (geo g)) (replicate (sectors (geo g) - 2) (replicate 254 0))) (sectorsOf g (now (image .entry))) ⌝ }
 {
     let mut k = TAKEN;

@@ -3,14 +3,15 @@
 use borrow.Author.Needs.{needs}
 use native.Mathlib.Omega.{arith}
 use Prim.Native.Nat.{_-_}
-use mathlib.Core.Path.{ap, _∙_}
+use mathlib.Core.Path.{sym, ap, subst, _∙_}
 use mathlib.Core.List.{List, []}
 use Prim.Native.Nat.{ℕ}
 use lib.ListN.{length, set, replicate, getD-replicate}
 use Rattle.format.specs.Geometry.{Disc, sector, sectors, written}
 use Rattle.format.specs.Effects.{chained, blankFree, blankSystem, blankDisc}
 use Rattle.disc.specs.Meaning.{geo, sectorsOf}
-use Rattle.blank.specs.Zeros.{cut-zeros}
+use Rattle.blank.specs.Meaning.{Bare}
+use Rattle.blank.specs.Zeros.{cut-zeros, bare-zeros}
 use Rattle.blank.proofs.blank_on.Statement.{statement}
 use Rattle.blank.proofs.blank_on.Tie as tie
 
@@ -26,7 +27,13 @@ put-system-requires c κs =
     (search needs, start .pre .1, blank ∙ getD-replicate (sectors (geo (a .g))) 0 (replicate 256 0) [] (omega (arith, v .total, v .some-sectors)))
 
 put-chain-requires : tie.Need-put-chain-requires
-put-chain-requires c κs = search needs
+put-chain-requires c κs =
+    let start = c .before .before .before .before .before .before .before .before .before .before in
+    let a = start .args in
+    let G = geo (a .g) in
+    let zeros = ap (sectorsOf (a .g)) (c .before .before .before .before .before .before .before .clear .ensures) ∙ cut-zeros G (length (a .image .now)) (omega (arith, start .pre .0 .long, start .pre .0 .valid .total)) in
+    let bare = subst Bare (sym (c .before .before .before .put-system .ensures ∙ ap (λ (d : Disc). set d 0 (blankSystem G (a .name .bytes))) zeros)) (bare-zeros (sectors G) (blankSystem G (a .name .bytes))) in
+    (search needs, start .pre .1, bare)
 
 same-length : tie.Need-same-length
 same-length c = search needs
