@@ -77,17 +77,19 @@ module _ (image : List ℕ) (a : ℕ) where
   legal-is =
       sym (ap₂ _&&_ (ap₂ _&&_ (ap letter first-byte) (ap spaced name-part)) (ap spaced extension-part))
 
--- an entry, by its bytes in the image and its fields in the sector
-pub entry-is : {g : code.Geometry} {image : List ℕ} → Image g image → (n i : ℕ) → n < g .sectors → i < slotsEach
-    → goodEntry (slotAt (sectorsOf g image) n i)
-    ≡ legalStored (take 9 (drop (startOf (geo g) n + slotStart i) image)) && leb 1 (wordAt (sector (sectorsOf g image) n) (slotStart i + lengthPlace))
-    && isAttribute (byte (sector (sectorsOf g image) n) (slotStart i + attributePlace))
-unfolding goodEntry
-entry-is {g} {image} im n i on h =
-    let d : Disc = sectorsOf g image in
-    let name : nameOf (slotAt d n i) ≡ take 9 (drop (startOf (geo g) n + slotStart i) image) =
-    name-front d n i ∙ sym (part-cut im n (slotStart i) 9 on (omega arith)) in
-    ap₂ _&&_ (ap₂ _&&_ (ap legalStored name) (ap (leb 1) (slot-word d n i (slotStart i) refl lengthPlace (omega arith)))) (ap isAttribute (slot-byte d n i (slotStart i) refl attributePlace (omega arith)))
+module _ {g : code.Geometry} {image : List ℕ} (im : Image g image) (n i : ℕ) (on : n < g .sectors) (h : i < slotsEach) where
+  -- the name of an entry, by its bytes in the image
+  pub name-at : nameOf (slotAt (sectorsOf g image) n i) ≡ take 9 (drop (startOf (geo g) n + slotStart i) image)
+  name-at = name-front (sectorsOf g image) n i ∙ sym (part-cut im n (slotStart i) 9 on (omega arith))
+
+  -- an entry, by its bytes in the image and its fields in the sector
+  pub entry-is : goodEntry (slotAt (sectorsOf g image) n i)
+      ≡ legalStored (take 9 (drop (startOf (geo g) n + slotStart i) image)) && leb 1 (wordAt (sector (sectorsOf g image) n) (slotStart i + lengthPlace))
+      && isAttribute (byte (sector (sectorsOf g image) n) (slotStart i + attributePlace))
+  unfolding goodEntry
+  entry-is =
+      let d : Disc = sectorsOf g image in
+      ap₂ _&&_ (ap₂ _&&_ (ap legalStored name-at) (ap (leb 1) (slot-word d n i (slotStart i) refl lengthPlace (omega arith)))) (ap isAttribute (slot-byte d n i (slotStart i) refl attributePlace (omega arith)))
 
 -- ---- a directory sector
 

@@ -209,7 +209,7 @@ fn directory_broken(image: &[u8], g: Geometry, marks: &mut [u8; 800]) -> u8
     if !entries::entries_good(image, g) {
         return 3;
     }
-    if !entries::names_differ(image, g) {
+    if !unique::names_differ(image, g) {
         return 4;
     }
     0

@@ -1,10 +1,10 @@
--- `entries::slot_named` meets its contract.
+-- `unique::slot_named` meets its contract.
 -- Assumes nothing.
 use borrow.Author.Needs.{needs}
 use borrow.Author.Tests.{not-true, not-false}
-use Rattle.entries.specs.Differ.{other-name, same-name}
-use Rattle.entries.proofs.slot_named.Statement.{statement}
-use Rattle.entries.proofs.slot_named.Tie as tie
+use Rattle.unique.specs.Differ.{other-name, same-name}
+use Rattle.unique.proofs.slot_named.Statement.{statement}
+use Rattle.unique.proofs.slot_named.Tie as tie
 
 same-names-requires : tie.Need-same-names-requires
 same-names-requires c κs = search needs

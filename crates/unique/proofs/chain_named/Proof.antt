@@ -1,4 +1,4 @@
--- `entries::chain_named` meets its contract. The answer hangs on the sectors that are left, from `at` on.
+-- `unique::chain_named` meets its contract. The answer hangs on the sectors that are left, from `at` on.
 -- Assumes nothing.
 use borrow.Author.Needs.{needs}
 use native.Mathlib.Omega.{arith}
@@ -8,11 +8,11 @@ use native.Mathlib.Nat.{sub-zero}
 use Rattle.format.specs.Layout.{slotAt}
 use Rattle.disc.specs.Meaning.{geo, sectorsOf, meaning, Inside}
 use Rattle.disc.specs.Laws.{inside}
 use Rattle.entries.specs.Entries.{entriesFrom, entries-next, entries-over, met-over}
 use Rattle.links.specs.Links.{met-ended, found-inside}
-use Rattle.entries.specs.Differ.{named, named-over, named-here, named-later}
-use Rattle.entries.proofs.chain_named.Statement.{statement}
-use Rattle.entries.proofs.chain_named.Tie as tie
+use Rattle.unique.specs.Differ.{named, named-over, named-here, named-later}
+use Rattle.unique.proofs.chain_named.Statement.{statement}
+use Rattle.unique.proofs.chain_named.Tie as tie
 
 abbrev Inv-loop : tie.InvT-loop
 Inv-loop image g n i left at₀ count₀ at count =

@@ -1,15 +1,15 @@
--- `entries::sector_named` meets its contract. The answer hangs on the slots from `j` on.
+-- `unique::sector_named` meets its contract. The answer hangs on the slots from `j` on.
 -- Assumes nothing.
 use borrow.Author.Needs.{needs}
 use Prim.Native.Nat.{_-_, _≤_}
 use mathlib.Core.Path.{_≡_, refl}
 use Rattle.format.specs.Layout.{slotsEach, inUse, slotAt}
 use Rattle.disc.specs.Meaning.{sectorsOf}
 use Rattle.entries.specs.Entries.{use-next, use-over}
 use Rattle.slots.specs.InOrder.{slotsFrom}
-use Rattle.entries.specs.Differ.{named, named-over, named-here, named-later}
-use Rattle.entries.proofs.sector_named.Statement.{statement}
-use Rattle.entries.proofs.sector_named.Tie as tie
+use Rattle.unique.specs.Differ.{named, named-over, named-here, named-later}
+use Rattle.unique.proofs.sector_named.Statement.{statement}
+use Rattle.unique.proofs.sector_named.Tie as tie
 
 abbrev Inv-loop : tie.InvT-loop
 Inv-loop image g n i m first j₀ j =
