@@ -1,9 +1,13 @@
-# make         build/libtandos.a: the proved calls and the C functions beside them
-# make demo    builds and runs examples/demo.c
-# make test-c  builds and runs the tests in C
-# make clean   removes build/
+# make           build/libtandos.a: the proved calls and the C functions beside them;
+#                build/tandos: the command
+# make demo      builds and runs examples/demo.c
+# make test-c    builds and runs the tests in C
+# make test-cli  builds the command, plain and with sanitizers, and tests it
+# make clean     removes build/
 #
-# RT_LIB=FILE  takes FILE for the archive of the proved calls and runs no rt.
+# RT_LIB=FILE    takes FILE for the archive of the proved calls and runs no rt.
+
+VERSION = 1.0.0
 
 CC = gcc
 CXX = g++
@@ -18,11 +22,17 @@ OBJECTS := $(patsubst c/%.c,build/%.o,$(wildcard c/*.c))
 TESTS := $(wildcard tests/c/*.c)
 HEADERS := include/tandos.h $(wildcard tests/c/*.h)
 TEST_OBJECTS := $(patsubst tests/c/%.c,build/tests/%.o,$(TESTS))
+CLI := $(wildcard cli/*.c)
+CLI_HEADERS := include/tandos.h $(wildcard cli/*.h)
+CLI_OBJECTS := $(patsubst cli/%.c,build/cli/%.o,$(CLI))
 
-.PHONY: all demo test-c test-header test-sanitized clean FORCE
+# The command asks the system for more than C99 has; realpath is of X/Open.
+CLI_DEFINES = -D_POSIX_C_SOURCE=200809L -D_XOPEN_SOURCE=700 -DTANDOS_VERSION='"$(VERSION)"'
+
+.PHONY: all demo test-c test-header test-sanitized test-cli clean FORCE
 .DELETE_ON_ERROR:
 
-all: build/libtandos.a
+all: build/libtandos.a build/tandos
 
 ifndef RT_LIB
 RT_LIB := target/staticlib/libtandos.a
@@ -45,9 +55,9 @@ build/%.o: c/%.c include/tandos.h build/settings
 	$(COMPILE) -c $< -o $@
 
 # What was built with other settings, or from another RT_LIB, is built again.
-SETTINGS := $(CC) $(CFLAGS) $(WARNINGS) $(AR) $(RT_LIB)
+SETTINGS := $(CC) $(CFLAGS) $(WARNINGS) $(AR) $(RT_LIB) $(VERSION)
 build/settings: FORCE
-	@mkdir -p build/tests
+	@mkdir -p build/tests build/cli
 	@echo '$(SETTINGS)' | cmp -s - $@ || echo '$(SETTINGS)' > $@
 
 build/demo: examples/demo.c build/libtandos.a include/tandos.h
@@ -55,6 +65,16 @@ build/demo: examples/demo.c build/libtandos.a include/tandos.h
 
 demo: build/demo
 	build/demo
+
+build/cli/%.o: cli/%.c $(CLI_HEADERS) build/settings
+	$(COMPILE) $(CLI_DEFINES) -c $< -o $@
+
+build/tandos: $(CLI_OBJECTS) build/libtandos.a
+	$(CC) $(CFLAGS) $^ -o $@
+
+# The C functions are compiled again, so that they are watched as well.
+build/tandos-sanitized: $(CLI) $(CLI_HEADERS) $(wildcard c/*.c) $(RT_LIB) build/settings
+	$(COMPILE) $(SANITIZE) $(CLI_DEFINES) $(CLI) $(wildcard c/*.c) $(RT_LIB) -o $@
 
 build/tests/%.o: tests/c/%.c $(HEADERS) build/settings
 	$(COMPILE) -c $< -o $@
