@@ -95,15 +95,24 @@ test-header: build/tests/from-cpp
 	build/tests/from-cpp
 
 # A compiler without the sanitizers is told of, not taken for a failure.
+HAS_SANITIZERS = echo 'int main(void) { return 0; }' | \
+	    $(CC) $(SANITIZE) -x c - -o build/tests/probe 2> build/tests/probe.log
+
 test-sanitized: build/settings $(RT_LIB)
-	@if echo 'int main(void) { return 0; }' | \
-	    $(CC) $(SANITIZE) -x c - -o build/tests/probe 2> build/tests/probe.log; \
+	@if $(HAS_SANITIZERS); \
 	then $(MAKE) --no-print-directory build/tests/run-sanitized && \
 	    ASAN_OPTIONS=detect_leaks=0 build/tests/run-sanitized; \
 	else echo '$(CC) has no sanitizers: the run with them is left out'; fi
 
 test-c: test-header test-sanitized build/tests/run
 	build/tests/run
+
+# Without the sanitized build the tests say that its cases are left out.
+test-cli: all
+	@if $(HAS_SANITIZERS); \
+	then $(MAKE) --no-print-directory build/tandos-sanitized; \
+	else rm -f build/tandos-sanitized; fi
+	tests/cli/run
 
 clean:
 	rm -rf build
