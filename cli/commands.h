@@ -28,5 +28,6 @@ extern const struct command rename_command;
 extern const struct command protect_command;
 extern const struct command check_command;
 extern const struct command view_command;
+extern const struct command map_command;
 
 #endif

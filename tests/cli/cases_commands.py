@@ -162,19 +162,21 @@ def _():
                    given=read("a.img"))
 
 
-@case("delete: the sectors go to the free chain")
+@case("delete: the bytes of the rules, from a full disc as well")
 def _():
     expected = pieces()
-    does("save", "a.img", "B", "-", given=b"x")
-    does("delete", "a.img", "B")
-    does("delete", "a.img", "THU.PCS")
-    found = Disc(read("a.img"))
-    equal(found.broken_rule(), 0)
-    equal(found.entries(), [])
-    equal(found.free().sectors[:4], [6, 9, 2, 5])
-    equal(found.word(0x14), 398)
-    equal(bytes(found.data[SECTOR * 6 + 2:SECTOR * 7]),
-          bytes(expected.data[SECTOR * 6 + 2:SECTOR * 7]))
+    for length in (1, 300):
+        expected.save("B", sheet_of(length))
+        does("save", "a.img", "B", "-", given=sheet_of(length))
+        expected.delete("B")
+        does("delete", "a.img", "B")
+        equal(read("a.img"), expected.data)
+    expected = Disc.blank(1, "FULL")
+    expected.save("X", sheet_of(2016))
+    write("full.img", expected.data)
+    expected.delete("X")
+    does("delete", "full.img", "X")
+    equal(read("full.img"), expected.data)
 
 
 @case("delete: refusals 1, 2, 3, 4, 6 write nothing")

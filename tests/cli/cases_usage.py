@@ -13,6 +13,7 @@ COMMANDS = {
     "protect": "IMAGE NAME on|off",
     "check": "IMAGE..",
     "view": "IMAGE TRACK/SECTOR",
+    "map": "IMAGE [--color=WHEN] [--svg FILE]",
 }
 
 
@@ -67,7 +68,7 @@ def _():
 
 
 def count(command):
-    return {"list": 1, "read": 2, "delete": 2, "view": 2}.get(command, 3)
+    return {"list": 1, "map": 1, "read": 2, "delete": 2, "view": 2}.get(command, 3)
 
 
 @case("misuse: numbers that are none, or out of 16 bits")

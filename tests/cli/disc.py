@@ -52,14 +52,16 @@ class Entry:
 
 class Walk:
     """A chain followed from a (track, sector) pair: its sectors in order, and
-    why it stopped: 'end', 'off' (the disc), 'system' or 'again'."""
+    why it stopped: 'end', 'off' (the disc), 'system' or 'again'. Only the free
+    chain may be empty."""
 
-    def __init__(self, disc, pair):
+    def __init__(self, disc, pair, may_be_empty=False):
         self.sectors = []
         self.off_from = None
+        met = set()
         while True:
             track, sector = pair
-            if sector == 0:
+            if sector == 0 and (self.sectors or may_be_empty):
                 self.stop = "end"
                 return
             if not disc.is_on(pair):
@@ -67,10 +69,11 @@ class Walk:
                 self.off_to = pair
                 return
             number = 10 * track + sector - 1
-            if number == 0 or number in self.sectors:
+            if number == 0 or number in met:
                 self.stop = "system" if number == 0 else "again"
                 self.stopped_at = number
                 return
+            met.add(number)
             self.sectors.append(number)
             self.off_from = number
             pair = disc.link(number)
@@ -135,7 +138,7 @@ class Disc:
         return [Entry(data) for _, data in self.slots() if any(data)]
 
     def free(self):
-        return Walk(self, self.pair(FREE_POINTER))
+        return Walk(self, self.pair(FREE_POINTER), may_be_empty=True)
 
     def save(self, typed, sheet, page=0, start=0x2000, transfer=None):
         """What a save that is not refused does."""
@@ -158,6 +161,19 @@ class Disc:
             self.set_pair(FREE_POINTER, free[used])
         else:
             self.data[FREE_POINTER:FREE_POINTER + 2] = b"\0\0"
+
+    def delete(self, typed):
+        """What a delete that is not refused does."""
+        at, entry = next((at, Entry(data)) for at, data in self.slots()
+                         if data[:9] == stored_name(typed))
+        sectors = Walk(self, entry.first).sectors
+        free = self.free().sectors
+        self.data[at:at + 16] = bytes(16)
+        self.data[SECTOR * (at // SECTOR) + 2] -= 1
+        self.set_link(sectors[-1], free[0] if free else None)
+        self.set_pair(FREE_POINTER, sectors[0])
+        self.set_word(FREE_COUNT, self.word(FREE_COUNT) + len(sectors))
+        self.set_word(USED_COUNT, self.word(USED_COUNT) - len(sectors))
 
     def grow(self, number):
         self.set_link(self.directory().sectors[-1], number)
