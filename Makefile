@@ -3,11 +3,15 @@
 # make demo      builds and runs examples/demo.c
 # make test-c    builds and runs the tests in C
 # make test-cli  builds the command, plain and with sanitizers, and tests it
+# make install   copies archive, header, command, manual pages and tandos.pc to
+#                $(DESTDIR)$(PREFIX)
+# make uninstall removes them there
 # make clean     removes build/
 #
 # RT_LIB=FILE    takes FILE for the archive of the proved calls and runs no rt.
 
 VERSION = 1.0.0
+PREFIX = /usr/local
 
 CC = gcc
 CXX = g++
@@ -29,7 +33,7 @@ CLI_OBJECTS := $(patsubst cli/%.c,build/cli/%.o,$(CLI))
 # The command asks the system for more than C99 has; realpath is of X/Open.
 CLI_DEFINES = -D_POSIX_C_SOURCE=200809L -D_XOPEN_SOURCE=700 -DTANDOS_VERSION='"$(VERSION)"'
 
-.PHONY: all demo test-c test-header test-sanitized test-cli clean FORCE
+.PHONY: all demo test-c test-header test-sanitized test-cli install uninstall clean FORCE
 .DELETE_ON_ERROR:
 
 all: build/libtandos.a build/tandos
@@ -113,6 +117,24 @@ test-cli: all
 	then $(MAKE) --no-print-directory build/tandos-sanitized; \
 	else rm -f build/tandos-sanitized; fi
 	tests/cli/run
+
+TO = $(DESTDIR)$(PREFIX)
+INSTALLED = $(TO)/bin/tandos $(TO)/lib/libtandos.a $(TO)/include/tandos.h \
+	$(TO)/lib/pkgconfig/tandos.pc $(TO)/share/man/man1/tandos.1 \
+	$(TO)/share/man/man3/tandos.3
+
+install: all
+	sed 's|@PREFIX@|$(PREFIX)|; s|@VERSION@|$(VERSION)|' tandos.pc.in > build/tandos.pc
+	mkdir -p $(dir $(INSTALLED))
+	install -m 755 build/tandos $(TO)/bin/tandos
+	install -m 644 build/libtandos.a $(TO)/lib/libtandos.a
+	install -m 644 include/tandos.h $(TO)/include/tandos.h
+	install -m 644 build/tandos.pc $(TO)/lib/pkgconfig/tandos.pc
+	install -m 644 man/tandos.1 $(TO)/share/man/man1/tandos.1
+	install -m 644 man/tandos.3 $(TO)/share/man/man3/tandos.3
+
+uninstall:
+	rm -f $(INSTALLED)
 
 clean:
 	rm -rf build
