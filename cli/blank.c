@@ -26,7 +26,7 @@ static enum status store(const char *path, const uint8_t *bytes, size_t length,
     struct stat old;
 
     if (!is_forced && lstat(path, &old) == 0)
-        return say_impossible(path, "stands already: give another name, "
+        return say_problem(path, "stands already: give another name, "
                                     "or --force to replace it");
     return replace_file(path, bytes, length, is_forced);
 }

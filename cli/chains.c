@@ -10,7 +10,8 @@ enum {
     FREE_POINTER = 0x10,
     DIRECTORY_POINTER = 0x12,
     FREE_COUNT = 0x14,
-    USED_COUNT = 0x16
+    USED_COUNT = 0x16,
+    DISC_NAME = 0x18
 };
 
 /* Positions in a directory sector and in an entry. */
@@ -120,6 +121,7 @@ static void follow_directory(struct chains *chains)
 
     directory->first = stored_pair(chains->image + DIRECTORY_POINTER);
     walk(chains, DIRECTORY_CHAIN);
+    /* Nothing on the disc says how long its directory is. */
     directory->said_length = directory->length;
 }
 
@@ -179,6 +181,7 @@ void follow_chains(struct chains *chains, const uint8_t *image, size_t length)
 
     memset(chains, 0, sizeof *chains);
     chains->image = image;
+    chains->disc_name = image + DISC_NAME;
     chains->tracks = (unsigned)(length / TANDOS_TRACK_SIZE);
     chains->sectors = chains->tracks * TANDOS_SECTORS_PER_TRACK;
     chains->count = FIRST_FILE_CHAIN;

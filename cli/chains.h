@@ -31,18 +31,18 @@ struct pair {
 
 enum chain_end {
     CHAIN_ENDS,
-    CHAIN_LEAVES,  /* goes to a sector that is not on the disc */
-    CHAIN_RETURNS  /* meets itself or the system sector, and is left there */
+    CHAIN_LEAVES, /* goes to a sector that is not on the disc */
+    CHAIN_RETURNS /* meets itself or the system sector, and is left there */
 };
 
 struct chain {
-    const uint8_t *name; /* nine bytes of a file's entry, else NULL */
-    unsigned said_length; /* by the entry, or by the free count */
+    const uint8_t *name;   /* nine bytes of a file's entry, else NULL */
+    unsigned said_length;  /* by the entry, or by the free count */
     struct pair said_last; /* by the entry */
-    unsigned length;      /* sectors met, each counted once */
+    unsigned length;       /* sectors met, each counted once */
     struct pair first, last;
     enum chain_end end;
-    struct pair next;     /* where the walk stopped, unless the chain ends */
+    struct pair next;      /* where the walk stopped, unless the chain ends */
 };
 
 /* How a chain meets a sector. Positions are counted from 1. */
@@ -58,10 +58,11 @@ struct sector {
 
 struct chains {
     const uint8_t *image;
+    const uint8_t *disc_name; /* nine bytes */
     unsigned tracks, sectors;
-    unsigned count;       /* of chains */
-    unsigned said_used;   /* by the used count */
-    unsigned said_files;  /* the sum of the entries' lengths */
+    unsigned count;      /* of chains */
+    unsigned said_used;  /* by the used count */
+    unsigned said_files; /* the sum of the entries' lengths */
     struct chain chain[MAX_CHAINS];
     struct sector sector[MAX_SECTORS];
     /* The sectors of the chain that was followed last, in its order. */

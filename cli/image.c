@@ -79,7 +79,7 @@ enum status load_image_for_change(struct image *image, const char *path,
         return say_misuse(command, "an image that is changed is a file, not",
                           path);
     if (stat(path, &named) == 0 && !S_ISREG(named.st_mode))
-        return say_impossible(path, "cannot change: not a regular file");
+        return say_problem(path, "cannot change: not a regular file");
     file = open_locked(path);
     if (file < 0)
         return say_failed(path, "cannot open for change");

@@ -61,7 +61,7 @@ static enum status write_svg(const char *path, const struct image *image,
         status = write_output(path, image, (const uint8_t *)text, length);
     free(text);
     if (status == STATUS_DONE && rule != 0)
-        say_impossible(input_name(image->path), tandos_rule_text(rule));
+        say_problem(input_name(image->path), tandos_rule_text(rule));
     return status;
 }
 
@@ -93,12 +93,12 @@ static enum status run(const struct arguments *arguments)
 const struct command map_command = {
     "map", "IMAGE [--color=WHEN] [--svg FILE]",
     "Show which file or chain each sector belongs to.",
-    "One row for each track, a legend, and for an unsound image the broken rule,\n"
-    "the sectors that are met more than once, lost, or linked off the disc, and\n"
-    "exit status 1.\n\n"
+    "Prints a row for each track, and a legend. Of an unsound image also the\n"
+    "broken rule and the sectors that are met more than once, lost, or linked\n"
+    "off the disc; the exit status is then 1.\n\n"
     "  --color=WHEN   always, never, or auto: in colour on a terminal unless\n"
     "                 NO_COLOR is set\n"
-    "  --svg FILE     write a picture to FILE instead, with each sector's order\n"
-    "                 in its chain\n",
+    "  --svg FILE     write a picture to FILE instead, with each sector's\n"
+    "                 order in its chain\n",
     1, 1, { { "--color", NULL, true }, { "--svg", NULL, true } }, run
 };

@@ -7,10 +7,10 @@ enum {
     CELL_WIDTH = 48,
     CELL_HEIGHT = 30,
     MAP_LEFT = 50,
-    MAP_TOP = 90,
+    MAP_TOP = 120,
     LEGEND_LEFT = MAP_LEFT + TANDOS_SECTORS_PER_TRACK * CELL_WIDTH + 30,
     LEGEND_LINE = 20,
-    LEGEND_WIDTH = 380,
+    LEGEND_WIDTH = 460,
     LEAST_LEGEND_LINES = 15,
     MARGIN = 20
 };
@@ -41,10 +41,11 @@ static unsigned legend_lines(const struct chains *chains)
     return lines > LEAST_LEGEND_LINES ? lines : LEAST_LEGEND_LINES;
 }
 
-/* One line more for the sectors that are damaged. */
 static unsigned legend_columns(const struct chains *chains)
 {
-    return chains->count / legend_lines(chains) + 1;
+    unsigned lines = legend_lines(chains);
+
+    return (chains->count + lines - 1) / lines;
 }
 
 static unsigned picture_width(const struct chains *chains)
@@ -64,7 +65,7 @@ static void print_head(FILE *to, const struct chains *chains, uint32_t rule)
 {
     char text[NAME_TEXT_SIZE];
 
-    disc_name_text(chains->image + 0x18, text);
+    disc_name_text(chains->disc_name, text);
     fprintf(to,
             "<?xml version=\"1.0\" encoding=\"UTF-8\"?>\n"
             "<svg xmlns=\"http://www.w3.org/2000/svg\" version=\"1.1\" "
@@ -96,7 +97,7 @@ static void print_rulers(FILE *to, const struct chains *chains)
     fputs("</g>\n", to);
 }
 
-/* Shown by a viewer that the pointer rests on the sector in. */
+/* A viewer shows it while the pointer rests on the sector. */
 static void print_cell_title(FILE *to, const struct chains *chains,
                              unsigned number)
 {
@@ -175,10 +176,12 @@ static void print_legend_line(FILE *to, const struct chains *chains,
 
 static void print_key(FILE *to, uint32_t rule)
 {
-    fprintf(to, "<text x=\"%d\" y=\"%d\">In each sector: its chain, and its "
-            "order in that chain.%s</text>\n", LEGEND_LEFT, MAP_TOP - 12,
-            rule == 0 ? "" : " Red border: + met more than once, "
-                             "&gt; linked off the disc, ? lost.");
+    fprintf(to, "<text x=\"%d\" y=\"72\">In each sector: its chain, and its "
+            "order in that chain.</text>\n", MARGIN);
+    if (rule != 0)
+        fprintf(to, "<text x=\"%d\" y=\"92\" fill=\"#c00000\">Red border: + "
+                "met more than once, &gt; linked off the disc, ? lost."
+                "</text>\n", MARGIN);
 }
 
 void print_map_svg(FILE *to, const struct chains *chains, uint32_t rule)
@@ -186,10 +189,10 @@ void print_map_svg(FILE *to, const struct chains *chains, uint32_t rule)
     unsigned i;
 
     print_head(to, chains, rule);
+    print_key(to, rule);
     print_rulers(to, chains);
     for (i = 0; i < chains->sectors; i++)
         print_cell(to, chains, i);
-    print_key(to, rule);
     for (i = 0; i < chains->count; i++)
         print_legend_line(to, chains, i);
     fputs("</svg>\n", to);

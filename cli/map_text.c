@@ -120,7 +120,7 @@ void print_map(FILE *to, const struct chains *chains, uint32_t rule,
     char text[NAME_TEXT_SIZE];
 
     fprintf(to, "Disc %s: %u tracks. %s\n\n",
-            disc_name_text(chains->image + 0x18, text), chains->tracks,
+            disc_name_text(chains->disc_name, text), chains->tracks,
             tandos_rule_text(rule));
     print_tracks(to, chains, is_coloured);
     print_legend(to, chains, is_coloured);

@@ -25,9 +25,9 @@ enum status say_failed(const char *path, const char *what)
     return STATUS_FAILED;
 }
 
-enum status say_impossible(const char *path, const char *why)
+enum status say_problem(const char *path, const char *problem)
 {
-    fprintf(stderr, "tandos: %s: %s\n", path, why);
+    fprintf(stderr, "tandos: %s: %s\n", path, problem);
     return STATUS_FAILED;
 }
 

@@ -16,8 +16,8 @@ enum status say_refused(const char *path, uint32_t number);
 /* A system call failed: errno says why. */
 enum status say_failed(const char *path, const char *what);
 
-/* Input or output is not possible, for a reason without an errno. */
-enum status say_impossible(const char *path, const char *why);
+/* What is wrong with a file, where errno does not say it. */
+enum status say_problem(const char *path, const char *problem);
 
 /* The command line is wrong. `command` may be NULL. */
 enum status say_misuse(const char *command, const char *what,

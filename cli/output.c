@@ -38,7 +38,7 @@ enum status write_output(const char *path, const struct image *image,
     if (stat(path, &file) != 0)
         return replace_file(path, bytes, length, true);
     if (is_image_file(image, &file))
-        return say_impossible(path, "is the image itself: choose another file");
+        return say_problem(path, "is the image itself: choose another file");
     if (!S_ISREG(file.st_mode) && !S_ISDIR(file.st_mode))
         return write_special(path, bytes, length);
     return replace_file(path, bytes, length, true);

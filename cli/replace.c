@@ -2,7 +2,6 @@
 
 #include <errno.h>
 #include <fcntl.h>
-#include <stdio.h>
 #include <stdlib.h>
 #include <string.h>
 #include <sys/stat.h>
@@ -45,17 +44,22 @@ static mode_t mode_of_new_file(void)
     return 0666 & ~mask;
 }
 
-/* Owner and permissions of the file that is replaced, if there is one. Only
- * the superuser can give a file away; the permissions count in any case. */
+/* Only the superuser can give a file away; others can give it to a group that
+ * they are in. What cannot be kept is not an error. */
+static bool take_owner(int file, const struct stat *old)
+{
+    return fchown(file, old->st_uid, old->st_gid) == 0 ||
+           fchown(file, (uid_t)-1, old->st_gid) == 0 || errno == EPERM;
+}
+
+/* Owner and permissions of the file that is replaced, if there is one. */
 static bool take_permissions(int file, const char *target)
 {
     struct stat old;
 
     if (stat(target, &old) != 0)
         return fchmod(file, mode_of_new_file()) == 0;
-    if (fchown(file, old.st_uid, old.st_gid) != 0 && errno != EPERM)
-        return false;
-    return fchmod(file, old.st_mode & 0777) == 0;
+    return take_owner(file, &old) && fchmod(file, old.st_mode & 0777) == 0;
 }
 
 static bool fill(int file, const char *target, const uint8_t *bytes,
@@ -127,7 +131,7 @@ enum status replace_file(const char *path, const uint8_t *bytes, size_t length,
     if (folder == NULL)
         status = say_failed(path, "cannot write");
     else if (!is_replaceable(target))
-        status = say_impossible(path, "cannot write: not a regular file");
+        status = say_problem(path, "cannot write: not a regular file");
     else
         status = write_beside(path, target, folder, bytes, length, may_exist);
     free(folder);

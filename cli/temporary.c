@@ -15,7 +15,7 @@ static const int ending_signals[] = { SIGHUP, SIGINT, SIGQUIT, SIGTERM,
 
 /* The path of the file while it stands. Changed only with the ending signals
  * blocked, so that the handler sees it exactly while the file stands. */
-static char *temporary;
+static char *volatile temporary;
 
 static void remove_and_end(int signal_number)
 {
