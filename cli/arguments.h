@@ -27,7 +27,8 @@ struct arguments {
 };
 
 /* Parses what follows the subcommand's name. Options may stand between the
- * operands; "--" ends them. Operands are moved together at the front of argv. */
+ * operands; "--" ends them. The operands are moved together at the front of
+ * argv. */
 enum status parse_arguments(struct arguments *arguments,
                             const struct option *options, size_t argc,
                             char **argv);

@@ -50,9 +50,10 @@ static void print_table(struct disc_record disc, const uint8_t *record)
     char text[NAME_TEXT_SIZE];
     unsigned i;
 
-    printf("Disc %s: %u tracks, %u sectors free, %u in %u %s\n",
-           disc_name_text(disc.name, text), disc.tracks, disc.free_count,
-           disc.used_count, disc.files, disc.files == 1 ? "file" : "files");
+    printf("Disc %s: %u track%s, %u sector%s free, %u in %u file%s\n",
+           disc_name_text(disc.name, text), disc.tracks, plural(disc.tracks),
+           disc.free_count, plural(disc.free_count), disc.used_count,
+           disc.files, plural(disc.files));
     if (disc.files > 0)
         puts("\nNAME        SECTORS");
     for (i = 0; i < disc.files; i++, record += TANDOS_FILE_RECORD_SIZE) {

@@ -77,8 +77,8 @@ static void print_head(FILE *to, const struct chains *chains, uint32_t rule)
             "fill=\"#ffffff\"/>\n<text x=\"%d\" y=\"28\" font-size=\"18\">Disc ",
             picture_width(chains), picture_height(chains), MARGIN);
     print_xml_text(to, text);
-    fprintf(to, ": %u tracks</text>\n<text x=\"%d\" y=\"52\"%s>",
-            chains->tracks, MARGIN, rule == 0 ? "" : " fill=\"#c00000\"");
+    fprintf(to, ": %u track%s</text>\n<text x=\"%d\" y=\"52\"%s>",
+            chains->tracks, plural(chains->tracks), MARGIN, rule == 0 ? "" : " fill=\"#c00000\"");
     print_xml_text(to, tandos_rule_text(rule));
     fputs("</text>\n", to);
 }

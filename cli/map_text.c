@@ -34,7 +34,6 @@ static void print_label(FILE *to, const char *text, const char *colour)
         fputs(text, to);
 }
 
-/* '+' and '>' after a label tell of damage, '?' stands alone. */
 static void print_cell(FILE *to, const struct sector *sector, bool is_coloured)
 {
     bool is_damaged = is_lost(sector) || is_met_again(sector) ||
@@ -46,7 +45,28 @@ static void print_cell(FILE *to, const struct sector *sector, bool is_coloured)
                                     : colour_of(sector->first.chain);
 
     print_label(to, label, is_coloured ? colour : NULL);
-    putc(is_met_again(sector) ? '+' : sector->links_off ? '>' : ' ', to);
+}
+
+/* Stands after a sector's label and tells of damage. */
+static const char *mark_of(const struct sector *sector)
+{
+    if (is_met_again(sector))
+        return "+";
+    return sector->links_off ? ">" : "";
+}
+
+static void print_track(FILE *to, const struct sector *sectors,
+                        bool is_coloured)
+{
+    const char *mark = "";
+    unsigned i;
+
+    for (i = 0; i < TANDOS_SECTORS_PER_TRACK; i++) {
+        fputs(*mark == '\0' ? " " : mark, to);
+        print_cell(to, &sectors[i], is_coloured);
+        mark = mark_of(&sectors[i]);
+    }
+    fprintf(to, "%s\n", mark);
 }
 
 static void print_tracks(FILE *to, const struct chains *chains,
@@ -56,14 +76,13 @@ static void print_tracks(FILE *to, const struct chains *chains,
 
     fputs("track", to);
     for (i = 1; i <= TANDOS_SECTORS_PER_TRACK; i++)
-        fprintf(to, "%5u ", i);
-    for (track = 0; track < chains->tracks; track++) {
-        fprintf(to, "\n%5u", track);
-        for (i = 0; i < TANDOS_SECTORS_PER_TRACK; i++)
-            print_cell(to, &chains->sector[track * TANDOS_SECTORS_PER_TRACK +
-                                           i], is_coloured);
-    }
+        fprintf(to, " %5u", i);
     putc('\n', to);
+    for (track = 0; track < chains->tracks; track++) {
+        fprintf(to, "%5u", track);
+        print_track(to, &chains->sector[track * TANDOS_SECTORS_PER_TRACK],
+                    is_coloured);
+    }
 }
 
 static void print_plain(FILE *to, const char *text)
@@ -80,8 +99,7 @@ void print_chain(FILE *to, const struct chains *chains, unsigned number,
     print_text(to, chain_name(chains, number, text));
     if (number == SYSTEM_CHAIN)
         return;
-    fprintf(to, ", %u %s", chain->length,
-            chain->length == 1 ? "sector" : "sectors");
+    fprintf(to, ", %u sector%s", chain->length, plural(chain->length));
     if (chain->length > 0)
         fprintf(to, ", %u/%u", chain->first.track, chain->first.sector);
     if (chain->length > 1)
@@ -119,9 +137,9 @@ void print_map(FILE *to, const struct chains *chains, uint32_t rule,
 {
     char text[NAME_TEXT_SIZE];
 
-    fprintf(to, "Disc %s: %u tracks. %s\n\n",
+    fprintf(to, "Disc %s: %u track%s. %s\n\n",
             disc_name_text(chains->disc_name, text), chains->tracks,
-            tandos_rule_text(rule));
+            plural(chains->tracks), tandos_rule_text(rule));
     print_tracks(to, chains, is_coloured);
     print_legend(to, chains, is_coloured);
     if (rule == 0)

@@ -47,6 +47,6 @@ const struct command read_command = {
     "Writes the file's bytes to standard output.\n\n"
     "  -o, --output FILE   write them to FILE instead\n"
     "  --info              print page, start, end, transfer and length of the\n"
-    "                      load module instead, each after its word and a tab\n",
+    "                      load module instead, each after its name and a tab\n",
     2, 2, { { "--output", "-o", true }, { "--info", NULL, false } }, run
 };

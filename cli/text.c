@@ -10,6 +10,11 @@ size_t unpadded_length(const uint8_t *bytes, size_t length)
     return length;
 }
 
+const char *plural(unsigned count)
+{
+    return count == 1 ? "" : "s";
+}
+
 unsigned word_at(const uint8_t *bytes)
 {
     return bytes[0] + 256u * bytes[1];

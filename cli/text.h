@@ -28,6 +28,9 @@ void print_xml_text(FILE *to, const char *text);
 /* The length without the spaces at the end. */
 size_t unpadded_length(const uint8_t *bytes, size_t length);
 
+/* "" after a count of 1, else "s". */
+const char *plural(unsigned count);
+
 /* Low byte first. */
 unsigned word_at(const uint8_t *bytes);
 

@@ -62,7 +62,7 @@ static enum status run(const struct arguments *arguments)
 const struct command view_command = {
     "view", "IMAGE TRACK/SECTOR", "Show the bytes of a sector.",
     "Prints the 254 bytes after the sector's link, in hexadecimal and ASCII.\n"
-    "Each row begins with the number of its first byte in the sector. The image\n"
-    "need not be sound.\n",
+    "Each row begins with the number of its first byte in the sector.\n"
+    "The image need not be sound.\n",
     2, 2, { { 0 } }, run
 };

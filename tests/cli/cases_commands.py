@@ -255,6 +255,9 @@ def _():
 
 @case("list: a table with --table")
 def _():
+    does("blank", "b.img", "1", "B")
+    equal(does("list", "--table", "b.img").text,
+          "Disc B: 1 track, 8 sectors free, 0 in 0 files\n")
     pieces()
     does("protect", "a.img", "THU.PCS", "on")
     equal(does("list", "--table", "a.img").text,

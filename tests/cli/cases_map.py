@@ -123,6 +123,7 @@ def check_text_map(disc, answer):
     holds(head, "The disc is sound." if rule == 0 else
           f"Rule {rule} is broken: ")
     equal(found_cells(answer.text), expected_cells(disc), "cells")
+    equal(" \n" in answer.text, False, "space at the end of a line")
     check_legend(disc, answer.text)
     if rule != 0:
         equal(sorted(lines_under(answer.text, "Met more than once")
@@ -316,7 +317,7 @@ def _():
     write("a.img", disc.data)
     answer = tandos("map", "a.img")
     check_text_map(disc, answer)
-    holds(answer.text, r"""Disc <&">\x1B\x00\xFF'\\: 1 tracks.""")
+    holds(answer.text, r"""Disc <&">\x1B\x00\xFF'\\: 1 track.""")
     equal(all(c == "\n" or " " <= c <= "~" for c in answer.text), True)
     data = tandos("map", "a.img", "--svg", "-").out
     check_svg(disc, data)
