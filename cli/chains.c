@@ -1,0 +1,229 @@
+#include "chains.h"
+
+#include <stdio.h>
+#include <string.h>
+
+#include "text.h"
+
+/* Positions in the system sector. */
+enum {
+    FREE_POINTER = 0x10,
+    DIRECTORY_POINTER = 0x12,
+    FREE_COUNT = 0x14,
+    USED_COUNT = 0x16,
+    DISC_NAME = 0x18
+};
+
+/* Positions in a directory sector and in an entry. */
+enum {
+    FIRST_SLOT = 3,
+    SLOT_SIZE = 16,
+    ENTRY_LENGTH = 9,
+    ENTRY_FIRST = 11,
+    ENTRY_LAST = 13
+};
+
+/* No chain: the value of met_by for a sector that none has met. */
+#define NO_CHAIN MAX_CHAINS
+
+struct pair pair_of(unsigned number)
+{
+    struct pair pair;
+
+    pair.track = number / TANDOS_SECTORS_PER_TRACK;
+    pair.sector = number % TANDOS_SECTORS_PER_TRACK + 1;
+    return pair;
+}
+
+/* Sector, then track: so pairs stand in the system sector and in entries. */
+static struct pair stored_pair(const uint8_t *bytes)
+{
+    struct pair pair;
+
+    pair.track = bytes[1];
+    pair.sector = bytes[0];
+    return pair;
+}
+
+/* Track, then sector: so links stand. */
+static struct pair link_of(const struct chains *chains, unsigned number)
+{
+    const uint8_t *bytes = chains->image + (size_t)number * TANDOS_SECTOR_SIZE;
+    struct pair pair;
+
+    pair.track = bytes[0];
+    pair.sector = bytes[1];
+    return pair;
+}
+
+static bool is_on_disc(const struct chains *chains, struct pair pair)
+{
+    return pair.track < chains->tracks && pair.sector >= 1 &&
+           pair.sector <= TANDOS_SECTORS_PER_TRACK;
+}
+
+static void meet(struct chains *chains, unsigned number, unsigned chain,
+                 unsigned position)
+{
+    struct sector *sector = &chains->sector[number];
+    struct meeting meeting;
+
+    meeting.chain = chain;
+    meeting.position = position;
+    if (sector->meetings == 0)
+        sector->first = meeting;
+    else if (sector->meetings == 1)
+        sector->second = meeting;
+    sector->meetings++;
+    chains->met_by[number] = chain;
+}
+
+static void leave_disc(struct chains *chains, struct chain *chain)
+{
+    chain->end = CHAIN_LEAVES;
+    if (chain->length > 0)
+        chains->sector[chains->order[chain->length - 1]].links_off = true;
+}
+
+/* Each turn meets a sector that this walk has not met, so there are at most as
+ * many as the disc has sectors. */
+static void walk(struct chains *chains, unsigned number)
+{
+    struct chain *chain = &chains->chain[number];
+    struct pair next = chain->first;
+
+    for (;;) {
+        unsigned sector;
+
+        chain->next = next;
+        if (next.sector == 0 && chain->length > 0)
+            return;
+        if (!is_on_disc(chains, next)) {
+            leave_disc(chains, chain);
+            return;
+        }
+        sector = next.track * TANDOS_SECTORS_PER_TRACK + next.sector - 1;
+        if (sector == 0 || chains->met_by[sector] == number) {
+            chain->end = CHAIN_RETURNS;
+            meet(chains, sector, number, chain->length + 1);
+            return;
+        }
+        chain->last = next;
+        chains->order[chain->length++] = sector;
+        meet(chains, sector, number, chain->length);
+        next = link_of(chains, sector);
+    }
+}
+
+static void follow_directory(struct chains *chains)
+{
+    struct chain *directory = &chains->chain[DIRECTORY_CHAIN];
+
+    directory->first = stored_pair(chains->image + DIRECTORY_POINTER);
+    walk(chains, DIRECTORY_CHAIN);
+    /* Nothing on the disc says how long its directory is. */
+    directory->said_length = directory->length;
+}
+
+static void follow_free(struct chains *chains)
+{
+    struct chain *free_chain = &chains->chain[FREE_CHAIN];
+
+    free_chain->first = stored_pair(chains->image + FREE_POINTER);
+    free_chain->said_length = word_at(chains->image + FREE_COUNT);
+    /* Without a free sector there is no chain to follow. */
+    if (free_chain->first.sector != 0)
+        walk(chains, FREE_CHAIN);
+}
+
+static bool is_free_slot(const uint8_t *slot)
+{
+    static const uint8_t zeros[SLOT_SIZE];
+
+    return memcmp(slot, zeros, SLOT_SIZE) == 0;
+}
+
+static void add_files_of(struct chains *chains, unsigned sector)
+{
+    const uint8_t *slot =
+        chains->image + (size_t)sector * TANDOS_SECTOR_SIZE + FIRST_SLOT;
+    unsigned i;
+
+    for (i = 0; i < SLOTS_PER_SECTOR; i++, slot += SLOT_SIZE) {
+        struct chain *file = &chains->chain[chains->count];
+
+        if (is_free_slot(slot))
+            continue;
+        file->name = slot;
+        file->said_length = word_at(slot + ENTRY_LENGTH);
+        file->first = stored_pair(slot + ENTRY_FIRST);
+        file->said_last = stored_pair(slot + ENTRY_LAST);
+        chains->said_files += file->said_length;
+        chains->count++;
+    }
+}
+
+static void follow_files(struct chains *chains)
+{
+    unsigned directory_length = chains->chain[DIRECTORY_CHAIN].length;
+    unsigned i;
+
+    /* The order is still that of the directory. */
+    for (i = 0; i < directory_length; i++)
+        add_files_of(chains, chains->order[i]);
+    for (i = FIRST_FILE_CHAIN; i < chains->count; i++)
+        walk(chains, i);
+}
+
+void follow_chains(struct chains *chains, const uint8_t *image, size_t length)
+{
+    unsigned i;
+
+    memset(chains, 0, sizeof *chains);
+    chains->image = image;
+    chains->disc_name = image + DISC_NAME;
+    chains->tracks = (unsigned)(length / TANDOS_TRACK_SIZE);
+    chains->sectors = chains->tracks * TANDOS_SECTORS_PER_TRACK;
+    chains->count = FIRST_FILE_CHAIN;
+    chains->said_used = word_at(image + USED_COUNT);
+    for (i = 0; i < MAX_SECTORS; i++)
+        chains->met_by[i] = NO_CHAIN;
+    meet(chains, 0, SYSTEM_CHAIN, 1);
+    chains->chain[SYSTEM_CHAIN].length = 1;
+    follow_directory(chains);
+    follow_files(chains);
+    follow_free(chains);
+}
+
+bool is_lost(const struct sector *sector)
+{
+    return sector->meetings == 0;
+}
+
+bool is_met_again(const struct sector *sector)
+{
+    return sector->meetings > 1;
+}
+
+const char *chain_label(unsigned chain, char text[CHAIN_TEXT_SIZE])
+{
+    switch (chain) {
+    case SYSTEM_CHAIN: return "sys";
+    case DIRECTORY_CHAIN: return "dir";
+    case FREE_CHAIN: return ".";
+    default:
+        snprintf(text, CHAIN_TEXT_SIZE, "%u", chain - FIRST_FILE_CHAIN + 1);
+        return text;
+    }
+}
+
+const char *chain_name(const struct chains *chains, unsigned chain,
+                       char text[CHAIN_TEXT_SIZE])
+{
+    switch (chain) {
+    case SYSTEM_CHAIN: return "system sector";
+    case DIRECTORY_CHAIN: return "directory";
+    case FREE_CHAIN: return "free chain";
+    default: return file_name_text(chains->chain[chain].name, text);
+    }
+}

@@ -1,0 +1,49 @@
+/* tandos check: whether images are sound. */
+#include <stdio.h>
+#include <string.h>
+
+#include "commands.h"
+#include "image.h"
+#include "message.h"
+
+static enum status check_one(const char *path)
+{
+    static struct image image;
+    tandos_checked checked;
+
+    if (load_image(&image, path) != STATUS_DONE)
+        return STATUS_FAILED;
+    checked = tandos_check(image.bytes, image.length);
+    if (checked.number != TANDOS_DONE) {
+        /* On standard output, like the other lines: one for each image. */
+        printf("%s: refused with %lu, %s. %s\n", input_name(path),
+               (unsigned long)checked.number,
+               tandos_refusal_name(checked.number),
+               tandos_refusal_text(checked.number));
+        return STATUS_REFUSED;
+    }
+    printf("%s: %s\n", input_name(path), tandos_rule_text(checked.rule));
+    return checked.rule == 0 ? STATUS_DONE : STATUS_REFUSED;
+}
+
+static enum status run(const struct arguments *arguments)
+{
+    enum status worst = STATUS_DONE;
+    size_t i;
+
+    for (i = 0; i < arguments->operands; i++) {
+        enum status status = check_one(arguments->operand[i]);
+
+        if (status > worst)
+            worst = status;
+    }
+    return worst;
+}
+
+const struct command check_command = {
+    "check", "IMAGE..", "Check that discs are sound.",
+    "Prints one line for each image: that it is sound, or the lowest-numbered\n"
+    "rule that is broken. Exit status 0 only if all are sound, 1 if one is\n"
+    "not, 2 if one could not be read.\n",
+    1, ANY_NUMBER, { { 0 } }, run
+};

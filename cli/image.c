@@ -1,0 +1,100 @@
+#include "image.h"
+
+#include <errno.h>
+#include <fcntl.h>
+#include <string.h>
+#include <unistd.h>
+
+#include "bytes.h"
+#include "message.h"
+#include "replace.h"
+
+static enum status read_image(struct image *image, int file)
+{
+    if (fstat(file, &image->file) != 0 ||
+        !read_bytes(file, image->bytes, sizeof image->bytes, &image->length))
+        return say_failed(input_name(image->path), "cannot read");
+    return STATUS_DONE;
+}
+
+enum status load_image(struct image *image, const char *path)
+{
+    bool is_standard = strcmp(path, "-") == 0;
+    int file = is_standard ? STDIN_FILENO : open(path, O_RDONLY);
+    enum status status;
+
+    image->path = path;
+    if (file < 0)
+        return say_failed(path, "cannot open");
+    status = read_image(image, file);
+    if (!is_standard)
+        close(file);
+    return status;
+}
+
+/* Waits for the lock. A file system without locks is worked on without. */
+static void lock_file(int file)
+{
+    struct flock lock = { 0 };
+
+    lock.l_type = F_WRLCK;
+    lock.l_whence = SEEK_SET;
+    while (fcntl(file, F_SETLKW, &lock) != 0 && errno == EINTR)
+        continue;
+}
+
+/* Another command may have replaced the file while this one waited for its
+ * lock: the lock is then on a file that no path leads to any more. */
+static bool is_still_at(const char *path, int file)
+{
+    struct stat opened, named;
+
+    return fstat(file, &opened) == 0 && stat(path, &named) == 0 &&
+           opened.st_dev == named.st_dev && opened.st_ino == named.st_ino;
+}
+
+/* -1 with errno. */
+static int open_locked(const char *path)
+{
+    for (;;) {
+        int file = open(path, O_RDWR);
+
+        if (file < 0)
+            return -1;
+        lock_file(file);
+        if (is_still_at(path, file))
+            return file;
+        close(file);
+    }
+}
+
+enum status load_image_for_change(struct image *image, const char *path,
+                                  const char *command)
+{
+    struct stat named;
+    int file;
+
+    image->path = path;
+    if (strcmp(path, "-") == 0)
+        return say_misuse(command, "an image that is changed is a file, not",
+                          path);
+    if (stat(path, &named) == 0 && !S_ISREG(named.st_mode))
+        return say_problem(path, "cannot change: not a regular file");
+    file = open_locked(path);
+    if (file < 0)
+        return say_failed(path, "cannot open for change");
+    return read_image(image, file);
+}
+
+enum status store_image(const struct image *image, uint32_t number)
+{
+    if (number != TANDOS_DONE)
+        return say_refused(image->path, number);
+    return replace_file(image->path, image->bytes, image->length, true);
+}
+
+bool is_image_file(const struct image *image, const struct stat *file)
+{
+    return image->file.st_dev == file->st_dev &&
+           image->file.st_ino == file->st_ino;
+}

@@ -1,0 +1,42 @@
+/* An image in memory, and its way from and to its file. */
+#ifndef IMAGE_H
+#define IMAGE_H
+
+#include <stdbool.h>
+#include <stddef.h>
+#include <stdint.h>
+#include <sys/stat.h>
+
+#include "status.h"
+#include "tandos.h"
+
+/* One byte more than any image has: enough for the library to see that a file
+ * is too long. */
+#define IMAGE_BUFFER_SIZE (TANDOS_IMAGE_SIZE(TANDOS_MAX_TRACKS) + 1)
+
+struct image {
+    const char *path;
+    struct stat file; /* which file it was read from */
+    size_t length;
+    uint8_t bytes[IMAGE_BUFFER_SIZE];
+};
+
+/* For the commands that only read: "-" is standard input. */
+enum status load_image(struct image *image, const char *path);
+
+/*
+ * For the commands that change the image. The file is locked until the process
+ * ends: of two commands at once the second one waits, and then reads what the
+ * first one wrote. Without that the first one's change would be lost.
+ */
+enum status load_image_for_change(struct image *image, const char *path,
+                                  const char *command);
+
+/* Replaces the image's file if `number` is TANDOS_DONE; otherwise says what
+ * was refused and writes nothing. */
+enum status store_image(const struct image *image, uint32_t number);
+
+/* Whether a path leads to the file that the image was read from. */
+bool is_image_file(const struct image *image, const struct stat *file);
+
+#endif

@@ -1,0 +1,26 @@
+/* Messages on standard error. Each function answers the exit status that goes
+ * with its message, so that a caller can return it. */
+#ifndef MESSAGE_H
+#define MESSAGE_H
+
+#include <stdint.h>
+
+#include "status.h"
+
+/* The name under which a path is spoken of: "-" is standard input. */
+const char *input_name(const char *path);
+
+/* A call refused: the image, the number, its name, and what to do. */
+enum status say_refused(const char *path, uint32_t number);
+
+/* A system call failed: errno says why. */
+enum status say_failed(const char *path, const char *what);
+
+/* What is wrong with a file, where errno does not say it. */
+enum status say_problem(const char *path, const char *problem);
+
+/* The command line is wrong. `command` may be NULL. */
+enum status say_misuse(const char *command, const char *what,
+                       const char *argument);
+
+#endif

@@ -1,0 +1,52 @@
+/* tandos read: a file's sheet. */
+#include <stdio.h>
+#include <string.h>
+
+#include "commands.h"
+#include "image.h"
+#include "message.h"
+#include "output.h"
+
+enum { OUTPUT, INFO };
+
+static void print_info(tandos_reading reading)
+{
+    printf("page\t%lu\n", (unsigned long)reading.page);
+    printf("start\t0x%04lX\n", (unsigned long)reading.start);
+    printf("end\t0x%04lX\n", (unsigned long)reading.end);
+    printf("transfer\t0x%04lX\n", (unsigned long)reading.transfer);
+    printf("length\t%lu\n", (unsigned long)reading.length);
+}
+
+static enum status run(const struct arguments *arguments)
+{
+    static struct image image;
+    static uint8_t sheet[TANDOS_SHEET_MAX];
+    const char *name = arguments->operand[1];
+    tandos_reading reading;
+
+    if (arguments->option[OUTPUT] && arguments->option[INFO])
+        return say_misuse(arguments->command, "--output and --info exclude "
+                          "each other", NULL);
+    if (load_image(&image, arguments->operand[0]) != STATUS_DONE)
+        return STATUS_FAILED;
+    reading = tandos_read(image.bytes, image.length, (const uint8_t *)name,
+                          strlen(name), sheet, sizeof sheet);
+    if (reading.number != TANDOS_DONE)
+        return say_refused(image.path, reading.number);
+    if (arguments->option[INFO]) {
+        print_info(reading);
+        return STATUS_DONE;
+    }
+    return write_output(arguments->option[OUTPUT], &image, sheet,
+                        reading.length);
+}
+
+const struct command read_command = {
+    "read", "IMAGE NAME [-o FILE | --info]", "Read a file of a disc.",
+    "Writes the file's bytes to standard output.\n\n"
+    "  -o, --output FILE   write them to FILE instead\n"
+    "  --info              print page, start, end, transfer and length of the\n"
+    "                      load module instead, each after its name and a tab\n",
+    2, 2, { { "--output", "-o", true }, { "--info", NULL, false } }, run
+};

@@ -1,0 +1,140 @@
+#include "replace.h"
+
+#include <errno.h>
+#include <fcntl.h>
+#include <stdlib.h>
+#include <string.h>
+#include <sys/stat.h>
+#include <unistd.h>
+
+#include "bytes.h"
+#include "message.h"
+#include "temporary.h"
+
+/* The file behind symbolic links; the path itself where nothing stands there
+ * yet. NULL with errno, also for a link that leads nowhere. */
+static char *real_path(const char *path)
+{
+    char *real = realpath(path, NULL);
+    struct stat link;
+
+    if (real != NULL || errno != ENOENT)
+        return real;
+    if (lstat(path, &link) == 0) {
+        errno = ENOENT;
+        return NULL;
+    }
+    return strdup(path);
+}
+
+/* The folder of a path, with its last slash; "./" where the path has none. */
+static char *folder_of(const char *path)
+{
+    const char *slash = strrchr(path, '/');
+
+    return slash != NULL ? strndup(path, (size_t)(slash - path) + 1)
+                         : strdup("./");
+}
+
+static mode_t mode_of_new_file(void)
+{
+    mode_t mask = umask(0);
+
+    umask(mask);
+    return 0666 & ~mask;
+}
+
+/* Only the superuser can give a file away; others can give it to a group that
+ * they are in. What cannot be kept is not an error. */
+static bool take_owner(int file, const struct stat *old)
+{
+    return fchown(file, old->st_uid, old->st_gid) == 0 ||
+           fchown(file, (uid_t)-1, old->st_gid) == 0 || errno == EPERM;
+}
+
+/* Owner and permissions of the file that is replaced, if there is one. */
+static bool take_permissions(int file, const char *target)
+{
+    struct stat old;
+
+    if (stat(target, &old) != 0)
+        return fchmod(file, mode_of_new_file()) == 0;
+    return take_owner(file, &old) && fchmod(file, old.st_mode & 0777) == 0;
+}
+
+static bool fill(int file, const char *target, const uint8_t *bytes,
+                 size_t length)
+{
+    bool is_filled = take_permissions(file, target) &&
+                     write_bytes(file, bytes, length) && fsync(file) == 0;
+    int error = errno;
+
+    if (close(file) != 0 && is_filled)
+        return false;
+    errno = error;
+    return is_filled;
+}
+
+/* The new name lasts only once the folder is on the disc too. Some file
+ * systems cannot do that for a folder, and say EINVAL. */
+static bool sync_folder(const char *folder)
+{
+    int file = open(folder, O_RDONLY);
+    bool is_done;
+    int error;
+
+    if (file < 0)
+        return false;
+    is_done = fsync(file) == 0 || errno == EINVAL;
+    error = errno;
+    close(file);
+    errno = error;
+    return is_done;
+}
+
+static enum status write_beside(const char *path, const char *target,
+                                const char *folder, const uint8_t *bytes,
+                                size_t length, bool may_exist)
+{
+    int file = create_temporary(folder);
+
+    if (file < 0)
+        return say_failed(path, "cannot make a temporary file beside it");
+    if (!fill(file, target, bytes, length) ||
+        !name_temporary(target, may_exist)) {
+        int error = errno;
+
+        remove_temporary();
+        errno = error;
+        return say_failed(path, "cannot write, nothing was changed");
+    }
+    if (!sync_folder(folder))
+        return say_failed(path, "written, but the folder could not be synced");
+    return STATUS_DONE;
+}
+
+/* A device or a pipe cannot be replaced, and must not be. */
+static bool is_replaceable(const char *target)
+{
+    struct stat file;
+
+    return stat(target, &file) != 0 || S_ISREG(file.st_mode);
+}
+
+enum status replace_file(const char *path, const uint8_t *bytes, size_t length,
+                         bool may_exist)
+{
+    char *target = real_path(path);
+    char *folder = target != NULL ? folder_of(target) : NULL;
+    enum status status;
+
+    if (folder == NULL)
+        status = say_failed(path, "cannot write");
+    else if (!is_replaceable(target))
+        status = say_problem(path, "cannot write: not a regular file");
+    else
+        status = write_beside(path, target, folder, bytes, length, may_exist);
+    free(folder);
+    free(target);
+    return status;
+}

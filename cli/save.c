@@ -1,0 +1,66 @@
+/* tandos save: a sheet as a new file. */
+#include <string.h>
+
+#include "bytes.h"
+#include "commands.h"
+#include "image.h"
+
+enum { PAGE, START, TRANSFER };
+
+#define DEFAULT_START 0x2000
+
+struct numbers {
+    uint32_t page, start, transfer;
+};
+
+static enum status parse_numbers(const struct arguments *arguments,
+                                 struct numbers *numbers)
+{
+    if (parse_option_number(arguments, PAGE, 0, &numbers->page) !=
+            STATUS_DONE ||
+        parse_option_number(arguments, START, DEFAULT_START,
+                            &numbers->start) != STATUS_DONE)
+        return STATUS_FAILED;
+    return parse_option_number(arguments, TRANSFER, numbers->start,
+                               &numbers->transfer);
+}
+
+static enum status run(const struct arguments *arguments)
+{
+    static struct image image;
+    /* One byte more than any sheet has, so that the library sees it. */
+    static uint8_t sheet[TANDOS_SHEET_MAX + 1];
+    const char *name = arguments->operand[1];
+    struct numbers numbers;
+    size_t length;
+
+    /* The sheet comes first: it may be long in coming through a pipe, and the
+     * image is locked from its loading on. */
+    if (parse_numbers(arguments, &numbers) != STATUS_DONE ||
+        read_file(arguments->operand[2], sheet, sizeof sheet, &length) !=
+            STATUS_DONE ||
+        load_image_for_change(&image, arguments->operand[0],
+                              arguments->command) != STATUS_DONE)
+        return STATUS_FAILED;
+    return store_image(&image,
+                       tandos_save(image.bytes, image.length,
+                                   (const uint8_t *)name, strlen(name),
+                                   numbers.page, (uint16_t)numbers.start,
+                                   (uint16_t)numbers.transfer, sheet, length));
+}
+
+const struct command save_command = {
+    "save", "IMAGE NAME FILE [--page N] [--start ADDR] [--transfer ADDR]",
+    "Save the bytes of FILE as a new file of a disc.",
+    "NAME is 1 to 6 of A-Z and 0-9, then nothing, or a dot and 1 to 3 of the\n"
+    "same. FILE has 1 to 65,536 - start bytes.\n\n"
+    "  --page N          0 to 7; 0 if not given\n"
+    "  --start ADDR      address of the first byte; 0x2000 if not given\n"
+    "  --transfer ADDR   transfer address; the start address if not given\n\n"
+    "Numbers are decimal, or hexadecimal after 0x or $ (which a shell wants\n"
+    "in quotation marks: '$2000').\n",
+    3, 3,
+    { { "--page", NULL, true }, { "--start", NULL, true },
+      { "--transfer", NULL, true } },
+    run
+};

@@ -1,0 +1,171 @@
+/*
+ * The representative's round: on every disc image that is given, checks it,
+ * lists it, saves a correction, deletes last week's sheet, and says what was
+ * done.
+ *
+ *     round CORRECTION FILE LAST-WEEK IMAGE..
+ *
+ * CORRECTION is the name of the new file on the discs, FILE holds its bytes,
+ * LAST-WEEK is the name of the file to be deleted. A disc on which anything is
+ * refused stays as it is. The exit status is 0 if every disc was done.
+ */
+#include <stdbool.h>
+#include <stdio.h>
+#include <stdlib.h>
+#include <string.h>
+
+#include "tandos.h"
+
+#define LONGEST_IMAGE TANDOS_IMAGE_SIZE(TANDOS_MAX_TRACKS)
+
+struct task {
+    const char *correction;
+    const char *last_week;
+    size_t sheet_length;
+    uint8_t sheet[TANDOS_SHEET_MAX + 1];
+};
+
+/* One byte more than any image has, so that a file that is too long is seen. */
+static uint8_t image[LONGEST_IMAGE + 1];
+static size_t image_length;
+
+static const uint8_t *bytes_of(const char *text)
+{
+    return (const uint8_t *)text;
+}
+
+/* As many bytes as a file has, at most `size`. */
+static bool read_file(const char *path, uint8_t *bytes, size_t size,
+                      size_t *length)
+{
+    FILE *file = fopen(path, "rb");
+    bool is_read;
+
+    if (file == NULL) {
+        perror(path);
+        return false;
+    }
+    *length = fread(bytes, 1, size, file);
+    is_read = !ferror(file);
+    if (!is_read)
+        perror(path);
+    fclose(file);
+    return is_read;
+}
+
+static bool write_new(const char *path)
+{
+    FILE *file = fopen(path, "wb");
+    bool is_written;
+
+    if (file == NULL)
+        return false;
+    is_written = fwrite(image, 1, image_length, file) == image_length;
+    return fclose(file) == 0 && is_written;
+}
+
+/* The new image takes the old one's place only when it stands whole. */
+static bool write_image(const char *path)
+{
+    size_t size = strlen(path) + sizeof ".new";
+    char *beside = malloc(size);
+    bool is_written;
+
+    if (beside == NULL)
+        return false;
+    snprintf(beside, size, "%s.new", path);
+    is_written = write_new(beside) && rename(beside, path) == 0;
+    if (!is_written) {
+        perror(path);
+        remove(beside);
+    }
+    free(beside);
+    return is_written;
+}
+
+static bool is_done(const char *step, uint32_t number)
+{
+    if (number == TANDOS_DONE)
+        return true;
+    printf("  %s was refused with %lu, %s. %s\n", step, (unsigned long)number,
+           tandos_refusal_name(number), tandos_refusal_text(number));
+    return false;
+}
+
+static bool check_image(void)
+{
+    tandos_checked checked = tandos_check(image, image_length);
+
+    if (!is_done("The check", checked.number))
+        return false;
+    printf("  %s\n", tandos_rule_text(checked.rule));
+    return checked.rule == 0;
+}
+
+static unsigned word_at(const uint8_t *bytes)
+{
+    return bytes[0] + 256u * bytes[1];
+}
+
+static bool list_image(void)
+{
+    static uint8_t records[TANDOS_LIST_MAX];
+    const uint8_t *record = records + TANDOS_DISC_RECORD_SIZE;
+    tandos_listed listed =
+        tandos_list(image, image_length, records, sizeof records);
+
+    if (!is_done("The list", listed.number))
+        return false;
+    printf("  %u sectors free, %u in files\n", word_at(records + 10),
+           word_at(records + 12));
+    for (; *record == TANDOS_RECORD_FILE; record += TANDOS_FILE_RECORD_SIZE)
+        printf("  %.6s %.3s %3u%s\n", (const char *)record + 1,
+               (const char *)record + 7, word_at(record + 10),
+               record[12] == TANDOS_ATTRIBUTE_PROTECTED ? " protected" : "");
+    return true;
+}
+
+static bool change_image(const struct task *task)
+{
+    if (!is_done("Saving the correction",
+                 tandos_save(image, image_length, bytes_of(task->correction),
+                             strlen(task->correction), 0, 0x2000, 0x2000,
+                             task->sheet, task->sheet_length)))
+        return false;
+    return is_done("Deleting last week's sheet",
+                   tandos_delete(image, image_length, bytes_of(task->last_week),
+                                 strlen(task->last_week)));
+}
+
+static bool visit(const char *path, const struct task *task)
+{
+    printf("%s\n", path);
+    if (!read_file(path, image, sizeof image, &image_length) ||
+        !check_image() || !list_image() || !change_image(task) ||
+        !write_image(path)) {
+        printf("  Left as it was.\n");
+        return false;
+    }
+    printf("  Saved %s (%lu bytes) and deleted %s.\n", task->correction,
+           (unsigned long)task->sheet_length, task->last_week);
+    return true;
+}
+
+int main(int argc, char **argv)
+{
+    static struct task task;
+    int done = 0, i;
+
+    if (argc < 5) {
+        fprintf(stderr, "Usage: round CORRECTION FILE LAST-WEEK IMAGE..\n");
+        return 2;
+    }
+    task.correction = argv[1];
+    task.last_week = argv[3];
+    if (!read_file(argv[2], task.sheet, sizeof task.sheet, &task.sheet_length))
+        return 2;
+    for (i = 4; i < argc; i++)
+        done += visit(argv[i], &task);
+    printf("%d of %d discs done.\n", done, argc - 4);
+    return done == argc - 4 ? EXIT_SUCCESS : EXIT_FAILURE;
+}
