@@ -159,6 +159,20 @@ static void seed_large(void)
     end("pages");
 }
 
+/* Numbers that are right once they are cut to 8 or 16 bits. */
+static void seed_wide_numbers(void)
+{
+    begin(0);
+    save(0, SHEET_1);
+    put(COMMAND_PROTECT, 0, NUMBER_WIDE, 0, 1, 0, 0, COMMAND_DELETE, 0, -1);
+    put(COMMAND_PROTECT, 0, NUMBER_WIDE, 0, 0, 1, 0, COMMAND_DELETE, 0, -1);
+    put(COMMAND_VIEW, NUMBER_WIDE, 0, 0, 1, 0, 1, -1);
+    put(COMMAND_VIEW, 0, NUMBER_WIDE, 10, 1, 0, 0, -1);
+    put(COMMAND_VIEW, 0, NUMBER_WIDE, 1, 0, 1, 0, -1);
+    put(COMMAND_TEXT, NUMBER_WIDE, 1, 1, 0, 0, -1);
+    end("wide-numbers");
+}
+
 static void put_typed(int command, const char *name)
 {
     put(command, NAME_TYPED + (int)strlen(name), -1);
@@ -256,6 +270,7 @@ int main(int argc, char **argv)
     seed_directory();
     seed_no_room_for_directory();
     seed_large();
+    seed_wide_numbers();
     seed_names();
     seed_rules();
     seed_unusual();
