@@ -2,13 +2,14 @@
 
 #include <stdio.h>
 
-/* Around what fills one, two and eight sectors, and around the longest. */
-static const uint32_t boundaries[] = {
-    1, 0, 244, 245, 246, 498, 499, 751, 752, 2016, 2017, 4293, 65535, 65536,
-    65537, 20000
+static const uint32_t sheet_lengths[SHEETS] = {
+    [SHEET_1] = 1,         [SHEET_0] = 0,         [SHEET_244] = 244,
+    [SHEET_245] = 245,     [SHEET_246] = 246,     [SHEET_498] = 498,
+    [SHEET_499] = 499,     [SHEET_751] = 751,     [SHEET_752] = 752,
+    [SHEET_2016] = 2016,   [SHEET_2017] = 2017,   [SHEET_4293] = 4293,
+    [SHEET_65535] = 65535, [SHEET_65536] = 65536, [SHEET_65537] = 65537,
+    [SHEET_20000] = 20000
 };
-
-#define BOUNDARIES (sizeof boundaries / sizeof boundaries[0])
 
 uint32_t take(struct input *input, unsigned byte_count)
 {
@@ -60,7 +61,7 @@ struct text take_sheet(struct input *input)
     uint32_t state;
     size_t i;
 
-    sheet.length = first < SHEET_LENGTH ? boundaries[first % BOUNDARIES]
+    sheet.length = first < SHEET_LENGTH ? sheet_lengths[first % SHEETS]
                                         : take(input, 2);
     state = take(input, 1);
     for (i = 0; i < sheet.length; i++) {

@@ -41,9 +41,17 @@ enum command {
 #define NAME_TYPED 0xC0 /* plus the length, 0 to 15, then the bytes */
 #define NAME_NULL 0xFF
 
-/* A sheet's length begins with one on a boundary, or with SHEET_LENGTH. Its
- * bytes follow from one more byte. */
-#define SHEET_LENGTH 0x40 /* then the length (2) */
+/* A sheet's length begins with one of these, by its remainder, or with
+ * SHEET_LENGTH. They lie around what fills one, two, three, eight and
+ * seventeen sectors, and around the longest. The sheet's bytes follow from one
+ * more byte. */
+enum sheet {
+    SHEET_1, SHEET_0, SHEET_244, SHEET_245, SHEET_246, SHEET_498, SHEET_499,
+    SHEET_751, SHEET_752, SHEET_2016, SHEET_2017, SHEET_4293, SHEET_65535,
+    SHEET_65536, SHEET_65537, SHEET_20000, SHEETS
+};
+
+#define SHEET_LENGTH 0x40 /* or above, then the length (2) */
 
 /* A number begins with itself, or with NUMBER_WIDE. */
 #define NUMBER_WIDE 0xFF /* then the number (4) */

@@ -12,11 +12,6 @@
 
 #define SEED_MOST 4096
 
-/* Stands for the first sheet lengths of input.c. */
-enum sheet { SHEET_1, SHEET_0, SHEET_244, SHEET_245, SHEET_246, SHEET_498,
-             SHEET_499, SHEET_751, SHEET_752, SHEET_2016, SHEET_2017,
-             SHEET_4293, SHEET_65535, SHEET_65536, SHEET_65537 };
-
 /* On a disc of one track: 0/4 is the directory, 0/7 the first free sector. */
 #define SECTOR_DIRECTORY 3
 #define SECTOR_FIRST_FREE 6
