@@ -79,6 +79,18 @@ static void seed_commands(void)
     end("commands");
 }
 
+static void seed_refusals(void)
+{
+    begin(0);
+    save(0, SHEET_1);
+    save(0, SHEET_1);
+    put(COMMAND_READ, NAME_NULL, BUFFER_EMPTY, COMMAND_READ, 1, 0, -1);
+    put(COMMAND_RENAME, NAME_NULL, 1, COMMAND_RENAME, 0, NAME_NULL, -1);
+    put(COMMAND_RENAME, 1, 2, COMMAND_RENAME, 1, 0, -1);
+    put(COMMAND_PROTECT, NAME_NULL, 1, COMMAND_PROTECT, 1, 1, -1);
+    end("refusals");
+}
+
 static void seed_full(void)
 {
     begin(0);
@@ -261,6 +273,7 @@ int main(int argc, char **argv)
     }
     folder = argv[1];
     seed_commands();
+    seed_refusals();
     seed_full();
     seed_directory();
     seed_no_room_for_directory();
