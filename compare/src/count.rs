@@ -111,7 +111,8 @@ impl Counts {
         missing
     }
 
-    fn write_answers(&self, out: &mut fmt::Formatter<'_>) -> fmt::Result {
+    /// How often each call gave each number, as a table.
+    pub fn write_answers(&self, out: &mut fmt::Formatter<'_>) -> fmt::Result {
         write!(out, "{:8}", "answer")?;
         for number in 0..=LAST_NUMBER {
             write!(out, "{number:>9}")?;

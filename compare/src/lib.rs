@@ -10,6 +10,7 @@ mod discs;
 pub mod ffi;
 mod lend;
 mod library;
+pub mod load;
 pub mod options;
 mod pair;
 pub mod run;

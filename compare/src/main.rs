@@ -1,6 +1,7 @@
 //! Compares the library with the second program; the last line is
 //! 'N passed, M failed'.
 
+use compare::load::Load;
 use compare::options::{Options, USAGE};
 use compare::run::Driver;
 use std::process::ExitCode;
@@ -16,6 +17,23 @@ fn main() -> ExitCode {
     };
     // Known before the first call, should a call never come back.
     println!("seed {}", options.seed);
+    match options.load {
+        Some(commands) => load(options.seed, commands),
+        None => compare(options),
+    }
+}
+
+/// The last line is 'load: N commands, M failed'.
+fn load(seed: u64, commands: u64) -> ExitCode {
+    let mut load = Load::new(seed);
+    let failed = load.run(commands).map_err(|text| println!("{text}"));
+    println!("{load}");
+    let failures = u8::from(failed.is_err());
+    println!("load: {} commands, {failures} failed", load.commands());
+    ExitCode::from(failures)
+}
+
+fn compare(options: Options) -> ExitCode {
     let mut driver = Driver::new(options.seed, options.run.is_some());
     let missing = match options.run {
         Some(number) => {

@@ -1,6 +1,6 @@
 //! The command line.
 
-pub const USAGE: &str = "usage: compare [--seed S] [--calls N] [--run R]";
+pub const USAGE: &str = "usage: compare [--seed S] [--calls N] [--run R] [--load N]";
 
 const DEFAULT_SEED: u64 = 650_065;
 const DEFAULT_CALLS: u64 = 20_000;
@@ -11,6 +11,8 @@ pub struct Options {
     pub calls: u64,
     /// Only this run, with each of its commands printed.
     pub run: Option<u64>,
+    /// So many commands on one image, in place of the comparison's runs.
+    pub load: Option<u64>,
 }
 
 impl Options {
@@ -19,6 +21,7 @@ impl Options {
             seed: DEFAULT_SEED,
             calls: DEFAULT_CALLS,
             run: None,
+            load: None,
         };
         for pair in arguments.chunks(2) {
             let value: u64 = pair.get(1)?.parse().ok()?;
@@ -26,6 +29,7 @@ impl Options {
                 "--seed" => options.seed = value,
                 "--calls" => options.calls = value,
                 "--run" => options.run = Some(value),
+                "--load" => options.load = Some(value),
                 _ => return None,
             }
         }
@@ -49,6 +53,8 @@ mod tests {
         let options = parse("--calls 7 --seed 3").expect("legal");
         assert_eq!((options.seed, options.calls), (3, 7));
         assert_eq!(parse("--run 5").and_then(|options| options.run), Some(5));
+        let load = parse("--seed 3 --load 9").expect("legal");
+        assert_eq!((load.seed, load.load), (3, Some(9)));
     }
 
     #[test]

@@ -5,7 +5,7 @@ use crate::lend::Lent;
 use crate::library::{self, beside, Library};
 use reference::command::{Answer, Command};
 use reference::generate::Random;
-use reference::history::{moment_fault, Book};
+use reference::history::{moment_fault, places_fault, Book};
 
 pub struct Pair {
     library: Lent,
@@ -67,6 +67,19 @@ impl Pair {
             .or_else(|| library.stray_write())
             .or_else(|| self.image_difference())
             .map(|text| format!("demand 3, in the moment after it: {text}"))
+    }
+
+    /// What the library's image alone lacks of demand 3 at this moment.
+    pub fn places_fault(&self) -> Option<String> {
+        let book = self.book.as_ref()?;
+        places_fault(self.library.bytes(), book).map(|text| format!("demand 3: {text}"))
+    }
+
+    /// How many files and how many directory sectors the history has.
+    pub fn extent(&self) -> (usize, usize) {
+        self.book
+            .as_ref()
+            .map_or((0, 0), |book| (book.standing().len(), book.directory()))
     }
 
     fn image_difference(&self) -> Option<String> {

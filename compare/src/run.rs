@@ -13,7 +13,7 @@ const MOST_REPORTS: u64 = 10;
 const CASES_IN_A_RUN: usize = 16;
 
 /// How the commands of a run are drawn, with the image before them in view.
-type Draw = fn(&mut Random, &[u8]) -> Command;
+pub type Draw = fn(&mut Random, &[u8]) -> Command;
 
 pub struct Driver {
     seed: u64,
@@ -158,7 +158,7 @@ impl Driver {
 
 /// Mostly saves and deletes of small files, so that the number of files often
 /// passes a multiple of fifteen, up and down.
-fn small_file_command(random: &mut Random, image: &[u8]) -> Command {
+pub fn small_file_command(random: &mut Random, image: &[u8]) -> Command {
     let name = match random.below(3) {
         0 => format!("F{}", random.below(30)).into_bytes(),
         _ => fresh_name(random),

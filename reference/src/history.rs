@@ -275,7 +275,8 @@ fn places(image: &[u8]) -> Option<Places> {
 }
 
 /// Every sector in exactly one place, and the free sectors as the sum says.
-fn places_fault(image: &[u8], book: &Book) -> Option<String> {
+/// The part of `moment_fault` that calls nothing.
+pub fn places_fault(image: &[u8], book: &Book) -> Option<String> {
     let places = match places(image) {
         Some(places) => places,
         None => return Some("a chain leaves the disc or does not end".to_string()),

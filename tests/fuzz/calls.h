@@ -1,0 +1,46 @@
+/*
+ * Each call of the library on guarded copies of all that is lent to it. Each of
+ * these expects that the number is one of the call's, that with a refusal the
+ * other numbers are 0 and every lent byte stays, and that otherwise only what
+ * the call may write is changed.
+ */
+#ifndef CALLS_H
+#define CALLS_H
+
+#include "input.h"
+#include "lent.h"
+#include "tandos.h"
+
+/* One track more than any disc has, for images that are too long. */
+#define IMAGE_MOST TANDOS_IMAGE_SIZE(TANDOS_MAX_TRACKS + 1)
+
+struct image {
+    size_t length;
+    uint8_t bytes[IMAGE_MOST];
+};
+
+/* What a list or read left at the front of its buffer. */
+extern uint8_t answer[BUFFER_MOST];
+
+/* The image is lent for reading: whoever lent it expects it kept. */
+tandos_checked call_check(const struct lent *image);
+tandos_listed call_list(const struct lent *image, size_t buffer_length);
+tandos_reading call_read(const struct lent *image, struct text name,
+                         size_t buffer_length);
+uint32_t call_view(const struct lent *image, uint32_t track, uint32_t sector);
+
+struct module {
+    uint32_t page;
+    uint16_t start, transfer;
+    struct text sheet;
+};
+
+uint32_t call_save(struct image *image, struct text name,
+                   const struct module *module);
+uint32_t call_delete(struct image *image, struct text name);
+uint32_t call_rename(struct image *image, struct text old_name,
+                     struct text new_name);
+uint32_t call_protect(struct image *image, struct text name, uint32_t on);
+uint32_t call_blank(struct image *image, struct text name);
+
+#endif

@@ -1,0 +1,163 @@
+#include "expected.h"
+
+#include <string.h>
+
+static int is_legal(uint8_t byte)
+{
+    return (byte >= 'A' && byte <= 'Z') || (byte >= '0' && byte <= '9');
+}
+
+/* One part of a name, 1 to `width` legal bytes, padded with spaces. */
+static int store_part(const uint8_t *part, size_t length, size_t width,
+                      uint8_t *stored)
+{
+    size_t i;
+
+    if (length < 1 || length > width)
+        return 0;
+    memset(stored, ' ', width);
+    for (i = 0; i < length; i++) {
+        if (!is_legal(part[i]))
+            return 0;
+        stored[i] = part[i];
+    }
+    return 1;
+}
+
+int store_name(struct text typed, uint8_t *stored)
+{
+    size_t dot = 0;
+
+    while (dot < typed.length && typed.bytes[dot] != '.')
+        dot++;
+    if (!store_part(typed.bytes, dot, 6, stored))
+        return 0;
+    memset(stored + 6, ' ', 3);
+    return dot == typed.length ||
+           store_part(typed.bytes + dot + 1, typed.length - dot - 1, 3,
+                      stored + 6);
+}
+
+int store_disc_name(struct text typed, uint8_t *stored)
+{
+    return store_part(typed.bytes, typed.length, TANDOS_NAME_SIZE, stored);
+}
+
+size_t need(const struct state *state, size_t sheet_length)
+{
+    size_t slots = SLOTS_PER_DIRECTORY_SECTOR * state->directory_sectors;
+
+    return module_sectors(sheet_length) + (state->file_count == slots);
+}
+
+uint32_t expected_list(const struct state *state, size_t buffer_length)
+{
+    if (!state->is_right_size)
+        return TANDOS_SIZE;
+    if (!state->is_sound)
+        return TANDOS_UNSOUND;
+    if (buffer_length < TANDOS_LIST_SIZE(state->file_count))
+        return TANDOS_SHORT;
+    return TANDOS_DONE;
+}
+
+/* The refusals 1 to 4 of the commands on a standing file; where none applies,
+ * that file. */
+static uint32_t expected_standing(const struct state *state, struct text name,
+                                  const struct file **file)
+{
+    uint8_t stored[TANDOS_NAME_SIZE];
+
+    *file = NULL;
+    if (!state->is_right_size)
+        return TANDOS_SIZE;
+    if (!store_name(name, stored))
+        return TANDOS_NAME;
+    if (!state->is_sound)
+        return TANDOS_UNSOUND;
+    *file = find(state, stored);
+    return *file == NULL ? TANDOS_ABSENT : TANDOS_DONE;
+}
+
+uint32_t expected_read(const struct state *state, struct text name,
+                       size_t buffer_length)
+{
+    const struct file *file;
+    uint32_t number = expected_standing(state, name, &file);
+
+    if (number != TANDOS_DONE)
+        return number;
+    if (file->reading.number != TANDOS_DONE)
+        return file->reading.number;
+    return buffer_length < file->reading.length ? TANDOS_SHORT : TANDOS_DONE;
+}
+
+uint32_t expected_save(const struct state *state, struct text name,
+                       const struct module *module)
+{
+    uint8_t stored[TANDOS_NAME_SIZE];
+    size_t length = module->sheet.length;
+
+    if (!state->is_right_size)
+        return TANDOS_SIZE;
+    if (!store_name(name, stored))
+        return TANDOS_NAME;
+    if (module->page > 7 || length < 1 || length > 65536u - module->start)
+        return TANDOS_MODULE;
+    if (!state->is_sound)
+        return TANDOS_UNSOUND;
+    if (find(state, stored) != NULL)
+        return TANDOS_TAKEN;
+    return need(state, length) > state->free_sectors ? TANDOS_ROOM
+                                                     : TANDOS_DONE;
+}
+
+uint32_t expected_delete(const struct state *state, struct text name)
+{
+    const struct file *file;
+    uint32_t number = expected_standing(state, name, &file);
+
+    if (number == TANDOS_DONE && file->attribute != TANDOS_ATTRIBUTE_NONE)
+        return TANDOS_PROTECTED;
+    return number;
+}
+
+uint32_t expected_rename(const struct state *state, struct text old_name,
+                         struct text new_name)
+{
+    uint8_t stored[TANDOS_NAME_SIZE];
+    uint32_t number;
+
+    if (state->is_right_size && !store_name(new_name, stored))
+        return TANDOS_NAME;
+    number = expected_delete(state, old_name);
+    if (number == TANDOS_DONE && find(state, stored) != NULL)
+        return TANDOS_TAKEN;
+    return number;
+}
+
+uint32_t expected_protect(const struct state *state, struct text name)
+{
+    const struct file *file;
+
+    return expected_standing(state, name, &file);
+}
+
+uint32_t expected_blank(const struct state *state, struct text name)
+{
+    uint8_t stored[TANDOS_NAME_SIZE];
+
+    if (!state->is_right_size)
+        return TANDOS_SIZE;
+    return store_disc_name(name, stored) ? TANDOS_DONE : TANDOS_NAME;
+}
+
+uint32_t expected_view(const struct image *image, const struct state *state,
+                       uint32_t track, uint32_t sector)
+{
+    if (!state->is_right_size)
+        return TANDOS_SIZE;
+    if (track >= image->length / TANDOS_TRACK_SIZE || sector < 1 || sector > 10)
+        return TANDOS_NO_SECTOR;
+    return TANDOS_DONE;
+}

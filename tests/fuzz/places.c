@@ -1,0 +1,100 @@
+#include "places.h"
+
+#include <string.h>
+
+#include "finding.h"
+
+#define SECTORS_MOST (TANDOS_SECTORS_PER_TRACK * TANDOS_MAX_TRACKS)
+#define SLOTS 15
+#define SLOT_SIZE 16
+#define FIRST_SLOT 3
+
+static uint8_t is_met[SECTORS_MOST];
+
+/* A link stands track first, a pointer sector first. */
+struct link {
+    size_t track, sector;
+};
+
+static struct link link_at(const uint8_t *bytes)
+{
+    struct link link;
+
+    link.track = bytes[0];
+    link.sector = bytes[1];
+    return link;
+}
+
+static struct link pointer_at(const uint8_t *bytes)
+{
+    struct link link;
+
+    link.track = bytes[1];
+    link.sector = bytes[0];
+    return link;
+}
+
+static const uint8_t *sector_at(const struct image *image, struct link link)
+{
+    return image->bytes + TANDOS_SECTOR_SIZE *
+           (TANDOS_SECTORS_PER_TRACK * link.track + link.sector - 1);
+}
+
+/* Marks the sectors of a chain up to its end link and gives its length. */
+static size_t mark_chain(const struct image *image, struct link link)
+{
+    size_t tracks = image->length / TANDOS_TRACK_SIZE;
+    size_t length = 0;
+
+    while (link.sector != 0) {
+        size_t number = 10 * link.track + link.sector - 1;
+
+        REQUIRE(link.track < tracks && link.sector <= 10 && number != 0,
+                "a chain of a sound image leaves the disc or meets 0/1");
+        REQUIRE(!is_met[number], "a sector of a sound image is in two places");
+        is_met[number] = 1;
+        link = link_at(sector_at(image, link));
+        length++;
+    }
+    return length;
+}
+
+static int is_free_slot(const uint8_t *slot)
+{
+    static const uint8_t zeros[SLOT_SIZE];
+
+    return memcmp(slot, zeros, SLOT_SIZE) == 0;
+}
+
+/* Marks the files of one directory sector and gives their sectors. */
+static size_t mark_files(const struct image *image, const uint8_t *directory)
+{
+    size_t sectors = 0;
+    unsigned i;
+
+    for (i = 0; i < SLOTS; i++) {
+        const uint8_t *slot = directory + FIRST_SLOT + SLOT_SIZE * i;
+        size_t length;
+
+        if (is_free_slot(slot))
+            continue;
+        length = mark_chain(image, pointer_at(slot + 11));
+        REQUIRE_EQUAL(slot[9] + 256u * slot[10], length, "length of a chain");
+        sectors += length;
+    }
+    return sectors;
+}
+
+struct places places_of(const struct image *image)
+{
+    struct link link = pointer_at(image->bytes + 0x12);
+    struct places places;
+
+    memset(is_met, 0, sizeof is_met);
+    places.files = 0;
+    places.directory = mark_chain(image, link);
+    for (; link.sector != 0; link = link_at(sector_at(image, link)))
+        places.files += mark_files(image, sector_at(image, link));
+    places.free = mark_chain(image, pointer_at(image->bytes + 0x10));
+    return places;
+}

@@ -1,0 +1,223 @@
+#include "promises.h"
+
+#include <string.h>
+
+#include "expected.h"
+#include "finding.h"
+
+/* Stands for the file of a state that has no counterpart in the other. */
+#define NONE TANDOS_MAX_FILES
+
+/* The most bytes that delete may change: a slot, its sector's count, a link,
+ * the free pointer, both counts. */
+#define DELETE_BYTES (16 + 1 + 2 + 2 + 4)
+
+static size_t index_of(const struct state *state, struct text name)
+{
+    uint8_t stored[TANDOS_NAME_SIZE];
+    const struct file *file;
+
+    REQUIRE(store_name(name, stored), "an illegal name is accepted");
+    file = find(state, stored);
+    return file == NULL ? NONE : (size_t)(file - state->files);
+}
+
+static int is_same_reading(const struct file *one, const struct file *other)
+{
+    return one->sectors == other->sectors && one->hash == other->hash &&
+           memcmp(&one->reading, &other->reading, sizeof one->reading) == 0;
+}
+
+static int is_same_file(const struct file *one, const struct file *other)
+{
+    return memcmp(one->name, other->name, TANDOS_NAME_SIZE) == 0 &&
+           one->attribute == other->attribute && is_same_reading(one, other);
+}
+
+/* All files but these two stand as they did, in the same order. */
+static void require_others_kept(const struct state *before, size_t left_out,
+                                const struct state *after, size_t added)
+{
+    size_t i = 0, j = 0;
+
+    for (;;) {
+        i += i == left_out;
+        j += j == added;
+        if (i >= before->file_count || j >= after->file_count)
+            break;
+        REQUIRE(is_same_file(&before->files[i], &after->files[j]),
+                "a file that the command does not name is changed");
+        i++;
+        j++;
+    }
+    REQUIRE(i >= before->file_count && j >= after->file_count,
+            "files that the command does not name come or go");
+    REQUIRE(memcmp(before->disc_name, after->disc_name, TANDOS_NAME_SIZE) == 0,
+            "the disc's name is changed");
+}
+
+static void require_counts(const struct state *state, size_t free_sectors,
+                           size_t directory_sectors)
+{
+    REQUIRE_EQUAL(free_sectors, state->free_sectors, "free sectors");
+    REQUIRE_EQUAL(directory_sectors, state->directory_sectors,
+                  "directory sectors");
+}
+
+static size_t changed_bytes(const struct image *one, const struct image *other)
+{
+    size_t changed = 0;
+    size_t i;
+
+    for (i = 0; i < one->length; i++)
+        changed += one->bytes[i] != other->bytes[i];
+    return changed;
+}
+
+static size_t changed_sectors(const struct image *one,
+                              const struct image *other)
+{
+    size_t changed = 0;
+    size_t at;
+
+    for (at = 0; at < one->length; at += TANDOS_SECTOR_SIZE)
+        changed += memcmp(one->bytes + at, other->bytes + at,
+                          TANDOS_SECTOR_SIZE) != 0;
+    return changed;
+}
+
+static void require_absent(const struct moment *moment, struct text name)
+{
+    struct lent lent = lend(moment->image.bytes, moment->image.length);
+
+    REQUIRE_EQUAL(TANDOS_ABSENT, call_read(&lent, name, 0).number,
+                  "read of a name that no longer stands");
+    give_back_kept(&lent, moment->image.bytes, "read changes the image");
+}
+
+void require_saved(const struct moment *before, const struct moment *after,
+                   struct text name, const struct module *module)
+{
+    size_t length = module->sheet.length;
+    size_t needed = need(&before->state, length);
+    size_t grown = needed - module_sectors(length);
+    size_t added = index_of(&after->state, name);
+    const struct file *file = &after->state.files[added];
+    const tandos_reading *reading = &file->reading;
+
+    REQUIRE(added != NONE, "a saved file does not stand");
+    REQUIRE_EQUAL(TANDOS_ATTRIBUTE_NONE, file->attribute, "attribute");
+    REQUIRE_EQUAL(TANDOS_DONE, reading->number, "read of a saved file");
+    REQUIRE(reading->page == module->page && reading->start == module->start &&
+            reading->transfer == module->transfer &&
+            reading->length == length &&
+            file->hash == hash_of(module->sheet.bytes, length),
+            "a saved file reads otherwise");
+    require_others_kept(&before->state, NONE, &after->state, added);
+    require_counts(&after->state, before->state.free_sectors - needed,
+                   before->state.directory_sectors + grown);
+    /* The system sector, the entry's, and where the directory grows the one
+     * that is linked from. */
+    REQUIRE(changed_sectors(&before->image, &after->image) <= needed + 2,
+            "save changes other sectors");
+}
+
+void require_deleted(const struct moment *before, const struct moment *after,
+                     struct text name)
+{
+    size_t gone = index_of(&before->state, name);
+
+    REQUIRE(index_of(&after->state, name) == NONE, "a deleted file stands");
+    require_absent(after, name);
+    require_others_kept(&before->state, gone, &after->state, NONE);
+    require_counts(&after->state, before->state.free_sectors +
+                                  before->state.files[gone].sectors,
+                   before->state.directory_sectors);
+    REQUIRE(changed_bytes(&before->image, &after->image) <= DELETE_BYTES,
+            "delete changes other bytes");
+}
+
+void require_renamed(const struct moment *before, const struct moment *after,
+                     struct text old_name, struct text new_name)
+{
+    size_t at = index_of(&before->state, old_name);
+    const struct file *was = &before->state.files[at];
+    const struct file *is = &after->state.files[at];
+
+    require_absent(after, old_name);
+    REQUIRE_EQUAL(at, index_of(&after->state, new_name), "place of a renamed");
+    REQUIRE(was->attribute == is->attribute && is_same_reading(was, is),
+            "a renamed file reads otherwise");
+    require_others_kept(&before->state, at, &after->state, at);
+    require_counts(&after->state, before->state.free_sectors,
+                   before->state.directory_sectors);
+    REQUIRE(changed_bytes(&before->image, &after->image) <= TANDOS_NAME_SIZE,
+            "rename changes other bytes");
+}
+
+/* A protected file is neither deleted nor renamed. */
+static void require_refused(const struct moment *moment, struct text name)
+{
+    static const uint8_t other[] = "ZZZZZZ.ZZZ";
+    static struct image copy;
+    struct text other_name;
+
+    other_name.bytes = other;
+    other_name.length = sizeof other - 1;
+    copy.length = moment->image.length;
+    memcpy(copy.bytes, moment->image.bytes, copy.length);
+    REQUIRE_EQUAL(TANDOS_PROTECTED, call_delete(&copy, name),
+                  "delete of a protected file");
+    REQUIRE_EQUAL(TANDOS_PROTECTED, call_rename(&copy, name, other_name),
+                  "rename of a protected file");
+}
+
+void require_protected(const struct moment *before, const struct moment *after,
+                       struct text name, uint32_t on)
+{
+    size_t at = index_of(&before->state, name);
+    const struct file *was = &before->state.files[at];
+    const struct file *is = &after->state.files[at];
+    unsigned attribute = on == 0 ? TANDOS_ATTRIBUTE_NONE
+                                 : TANDOS_ATTRIBUTE_PROTECTED;
+
+    REQUIRE_EQUAL(at, index_of(&after->state, name), "place of a protected");
+    REQUIRE_EQUAL(attribute, is->attribute, "attribute after protect");
+    REQUIRE(is_same_reading(was, is), "a protected file reads otherwise");
+    require_others_kept(&before->state, at, &after->state, at);
+    REQUIRE_EQUAL(was->attribute != attribute,
+                  changed_bytes(&before->image, &after->image),
+                  "bytes that protect changes");
+    if (on != 0)
+        require_refused(after, name);
+}
+
+/* A blank disc does not depend on the bytes that were there before. */
+static void require_same_from_elsewhere(const struct moment *before,
+                                        const struct moment *after,
+                                        struct text name)
+{
+    static struct image other;
+    size_t i;
+
+    other.length = before->image.length;
+    for (i = 0; i < other.length; i++)
+        other.bytes[i] = (uint8_t)~before->image.bytes[i];
+    REQUIRE_EQUAL(TANDOS_DONE, call_blank(&other, name), "a second blank");
+    REQUIRE(memcmp(other.bytes, after->image.bytes, other.length) == 0,
+            "a blank disc depends on what was there");
+}
+
+void require_blank(const struct moment *before, const struct moment *after,
+                   struct text name)
+{
+    uint8_t stored[TANDOS_NAME_SIZE];
+
+    REQUIRE(store_disc_name(name, stored), "an illegal disc name is accepted");
+    REQUIRE(memcmp(stored, after->state.disc_name, TANDOS_NAME_SIZE) == 0,
+            "name of a blank disc");
+    REQUIRE_EQUAL(0, after->state.file_count, "files of a blank disc");
+    require_counts(&after->state,
+                   after->image.length / TANDOS_SECTOR_SIZE - 2, 1);
+    require_same_from_elsewhere(before, after, name);
+}

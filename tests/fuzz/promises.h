@@ -1,0 +1,27 @@
+/*
+ * What holds after an accepted command, said of the image and of the
+ * library's own answers before it and after it.
+ */
+#ifndef PROMISES_H
+#define PROMISES_H
+
+#include "state.h"
+
+/* A moment of a run: the image and what the library says of it. */
+struct moment {
+    struct image image;
+    struct state state;
+};
+
+void require_saved(const struct moment *before, const struct moment *after,
+                   struct text name, const struct module *module);
+void require_deleted(const struct moment *before, const struct moment *after,
+                     struct text name);
+void require_renamed(const struct moment *before, const struct moment *after,
+                     struct text old_name, struct text new_name);
+void require_protected(const struct moment *before, const struct moment *after,
+                       struct text name, uint32_t on);
+void require_blank(const struct moment *before, const struct moment *after,
+                   struct text name);
+
+#endif

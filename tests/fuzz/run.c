@@ -1,0 +1,360 @@
+#include "run.h"
+
+#include <string.h>
+
+#include "expected.h"
+#include "finding.h"
+#include "promises.h"
+
+/* More would slow each execution down and reach little that is new. */
+#define COMMANDS_MOST 100
+#define SAVES_MOST 20
+
+/* Inputs mostly give images of few tracks, on which calls take less time. */
+#define SMALL_STARTS 224
+#define SMALL_TRACKS 4
+#define SMALL_LENGTHS 4 /* by the highest byte of a length */
+
+/* Two moments, so that the one before a command is kept; too large for the
+ * stack. */
+static struct moment moments[2];
+static struct moment *now = &moments[0];
+static struct moment *before = &moments[1];
+static int is_state_known;
+
+static void know_state(void)
+{
+    if (!is_state_known)
+        look(&now->image, &now->state);
+    is_state_known = 1;
+}
+
+/* Keeps the image, which a command may change. */
+static void begin_command(void)
+{
+    know_state();
+    before->image.length = now->image.length;
+    memcpy(before->image.bytes, now->image.bytes, now->image.length);
+}
+
+/* Looks at the image that an accepted command left. */
+static void end_command(void)
+{
+    copy_state(&before->state, &now->state);
+    look(&now->image, &now->state);
+    REQUIRE(now->state.is_sound, "an accepted command leaves no sound image");
+}
+
+static void run_list(struct input *input)
+{
+    size_t files = now->state.file_count;
+    size_t length = take_buffer_length(input, TANDOS_LIST_SIZE(files));
+    struct lent lent = lend(now->image.bytes, now->image.length);
+    tandos_listed listed = call_list(&lent, length);
+
+    REQUIRE_EQUAL(expected_list(&now->state, length), listed.number, "list");
+    if (listed.number == TANDOS_DONE)
+        REQUIRE_EQUAL(TANDOS_LIST_SIZE(files), listed.length, "length of list");
+    give_back_kept(&lent, now->image.bytes, "list changes the image");
+}
+
+static void run_read(struct input *input)
+{
+    uint8_t stored[TANDOS_NAME_SIZE];
+    struct name name;
+    const struct file *file = NULL;
+    size_t length;
+    struct lent lent = lend(now->image.bytes, now->image.length);
+    tandos_reading reading;
+
+    take_name(input, &name);
+    if (store_name(name.text, stored))
+        file = find(&now->state, stored);
+    length = take_buffer_length(input, file == NULL ? 0 : file->reading.length);
+    reading = call_read(&lent, name.text, length);
+    REQUIRE_EQUAL(expected_read(&now->state, name.text, length),
+                  reading.number, "read");
+    if (reading.number == TANDOS_DONE) {
+        REQUIRE(memcmp(&file->reading, &reading, sizeof reading) == 0,
+                "a file reads otherwise with another buffer");
+        REQUIRE(file->hash == hash_of(answer, reading.length),
+                "a file's bytes differ with another buffer");
+    }
+    give_back_kept(&lent, now->image.bytes, "read changes the image");
+}
+
+static void save(struct text name, const struct module *module)
+{
+    uint32_t number = call_save(&now->image, name, module);
+
+    REQUIRE_EQUAL(expected_save(&now->state, name, module), number, "save");
+    if (number == TANDOS_DONE) {
+        end_command();
+        require_saved(before, now, name, module);
+    }
+}
+
+static void run_save(struct input *input)
+{
+    struct name name;
+    struct module module;
+
+    take_name(input, &name);
+    module.page = take_number(input);
+    module.start = (uint16_t)take(input, 2);
+    module.transfer = (uint16_t)take(input, 2);
+    module.sheet = take_sheet(input);
+    save(name.text, &module);
+}
+
+/* Few bytes of input for many files, so that directories of many sectors are
+ * reached. */
+static void run_saves(struct input *input)
+{
+    unsigned count = take(input, 1) % SAVES_MOST;
+    unsigned which = take(input, 1);
+    struct module module = { 0, 0, 0, take_sheet(input) };
+
+    for (; count > 0; count--) {
+        struct name name;
+
+        put_legal_name(&name, which++ % NAME_TYPED);
+        begin_command();
+        save(name.text, &module);
+    }
+}
+
+static void run_delete(struct input *input)
+{
+    struct name name;
+    uint32_t number;
+
+    take_name(input, &name);
+    number = call_delete(&now->image, name.text);
+    REQUIRE_EQUAL(expected_delete(&now->state, name.text), number, "delete");
+    if (number == TANDOS_DONE) {
+        end_command();
+        require_deleted(before, now, name.text);
+    }
+}
+
+static void run_rename(struct input *input)
+{
+    struct name old_name, new_name;
+    uint32_t number;
+
+    take_name(input, &old_name);
+    take_name(input, &new_name);
+    number = call_rename(&now->image, old_name.text, new_name.text);
+    REQUIRE_EQUAL(expected_rename(&now->state, old_name.text, new_name.text),
+                  number, "rename");
+    if (number == TANDOS_DONE) {
+        end_command();
+        require_renamed(before, now, old_name.text, new_name.text);
+    }
+}
+
+static void run_protect(struct input *input)
+{
+    struct name name;
+    uint32_t on, number;
+
+    take_name(input, &name);
+    on = take_number(input);
+    number = call_protect(&now->image, name.text, on);
+    REQUIRE_EQUAL(expected_protect(&now->state, name.text), number, "protect");
+    if (number == TANDOS_DONE) {
+        end_command();
+        require_protected(before, now, name.text, on);
+    }
+}
+
+static void run_blank(struct input *input)
+{
+    struct name name;
+    uint32_t number;
+
+    take_name(input, &name);
+    number = call_blank(&now->image, name.text);
+    REQUIRE_EQUAL(expected_blank(&now->state, name.text), number, "blank");
+    if (number == TANDOS_DONE) {
+        end_command();
+        require_blank(before, now, name.text);
+    }
+}
+
+static void run_view(struct input *input)
+{
+    uint32_t track = take_number(input);
+    uint32_t sector = take_number(input);
+    struct lent lent = lend(now->image.bytes, now->image.length);
+
+    REQUIRE_EQUAL(expected_view(&now->image, &now->state, track, sector),
+                  call_view(&lent, track, sector), "view");
+    give_back_kept(&lent, now->image.bytes, "view changes the image");
+}
+
+static void run_text(struct input *input)
+{
+    uint32_t number = take_number(input);
+    int is_unknown = strcmp(tandos_refusal_name(number), "?") == 0;
+
+    REQUIRE(is_unknown == (number > TANDOS_NO_SECTOR), "name of a number");
+    REQUIRE(strlen(tandos_refusal_text(number)) > 0, "text of a number");
+    REQUIRE(strlen(tandos_rule_text(number)) > 0, "text of a rule");
+}
+
+/* Changes bytes of one sector, as no command would. */
+static void change_sector(size_t sector, size_t byte, const uint8_t *values,
+                          size_t count)
+{
+    size_t at = sector * TANDOS_SECTOR_SIZE + byte;
+
+    if (at + count <= now->image.length)
+        memcpy(now->image.bytes + at, values, count);
+    is_state_known = 0;
+}
+
+static void change_system(struct input *input)
+{
+    size_t byte = take(input, 1);
+    uint8_t value = (uint8_t)take(input, 1);
+
+    /* The free pointer, the directory pointer and both counts. */
+    change_sector(0, 0x10 + byte % 8, &value, 1);
+}
+
+static void change_link(struct input *input)
+{
+    size_t sectors = now->image.length / TANDOS_SECTOR_SIZE + 1;
+    size_t sector = take(input, 2) % sectors;
+    uint8_t link[TANDOS_LINK_SIZE];
+
+    link[0] = (uint8_t)take(input, 1);
+    link[1] = (uint8_t)take(input, 1);
+    change_sector(sector, 0, link, sizeof link);
+}
+
+static void change_byte(struct input *input)
+{
+    size_t sectors = now->image.length / TANDOS_SECTOR_SIZE + 1;
+    size_t sector = take(input, 2) % sectors;
+    size_t byte = take(input, 1);
+    uint8_t value = (uint8_t)take(input, 1);
+
+    change_sector(sector, byte, &value, 1);
+}
+
+static size_t take_image_length(struct input *input)
+{
+    uint32_t length = take(input, 3);
+
+    if (length >> 16 < SMALL_LENGTHS)
+        return length % (IMAGE_MOST + 1);
+    return length % (TANDOS_IMAGE_SIZE(SMALL_TRACKS) + 1);
+}
+
+static void resize(struct input *input)
+{
+    size_t length = take_image_length(input);
+
+    if (length > now->image.length)
+        memset(now->image.bytes + now->image.length, 0,
+               length - now->image.length);
+    now->image.length = length;
+    is_state_known = 0;
+}
+
+/* Commands that a call does; 0 for a command that is none of them. */
+static int run_call(enum command command, struct input *input)
+{
+    static void (*const calls[COMMANDS])(struct input *) = {
+        [COMMAND_LIST] = run_list,
+        [COMMAND_READ] = run_read,
+        [COMMAND_SAVE] = run_save,
+        [COMMAND_SAVES] = run_saves,
+        [COMMAND_DELETE] = run_delete,
+        [COMMAND_RENAME] = run_rename,
+        [COMMAND_PROTECT] = run_protect,
+        [COMMAND_BLANK] = run_blank,
+        [COMMAND_VIEW] = run_view
+    };
+
+    if (calls[command] == NULL)
+        return 0;
+    begin_command();
+    calls[command](input);
+    return 1;
+}
+
+static void run_command(struct input *input)
+{
+    enum command command = (enum command)(take(input, 1) % COMMANDS);
+
+    if (run_call(command, input))
+        return;
+    switch (command) {
+    case COMMAND_CHECK:
+        is_state_known = 0;
+        know_state();
+        break;
+    case COMMAND_TEXT:
+        run_text(input);
+        break;
+    case COMMAND_SYSTEM:
+        change_system(input);
+        break;
+    case COMMAND_LINK:
+        change_link(input);
+        break;
+    case COMMAND_BYTE:
+        change_byte(input);
+        break;
+    default:
+        resize(input);
+    }
+}
+
+static void start_blank(struct input *input)
+{
+    static const uint8_t name[] = "FUZZ";
+    struct text text;
+    size_t tracks = take(input, 1);
+
+    tracks = tracks < SMALL_STARTS ? 1 + tracks % SMALL_TRACKS
+                                   : 1 + tracks * 31 % TANDOS_MAX_TRACKS;
+    text.bytes = name;
+    text.length = sizeof name - 1;
+    now->image.length = TANDOS_IMAGE_SIZE(tracks);
+    memset(now->image.bytes, 0x33, now->image.length);
+    REQUIRE_EQUAL(TANDOS_DONE, call_blank(&now->image, text), "a first blank");
+}
+
+/* The input's bytes, again from the first where the image is longer. They are
+ * the commands as well, so that few bytes give both. */
+static void start_bytes(struct input *input)
+{
+    size_t length = take_image_length(input);
+    size_t given = (size_t)(input->end - input->at);
+    size_t i;
+
+    now->image.length = length;
+    for (i = 0; i < length; i++)
+        now->image.bytes[i] = given == 0 ? 0 : input->at[i % given];
+}
+
+void run_input(struct input *input)
+{
+    unsigned commands;
+
+    is_state_known = 0;
+    if (take(input, 1) % STARTS == START_BLANK)
+        start_blank(input);
+    else
+        start_bytes(input);
+    know_state();
+    for (commands = 0; commands < COMMANDS_MOST && input->at < input->end;
+         commands++)
+        run_command(input);
+    know_state();
+}
