@@ -228,9 +228,11 @@ def damaged_place(disc, chance):
 
 
 def damaged_byte(disc, chance):
-    return chance.choice((0, 1, chance.randrange(1, 11),
-                          chance.randrange(disc.tracks), 10, 11, 0xFF,
-                          chance.randrange(256)))
+    """Often on the boundary: the first and last sector and track, and those
+    after them."""
+    return chance.choice((0, 1, chance.randrange(1, 11), 10, 11,
+                          chance.randrange(disc.tracks), disc.tracks - 1,
+                          disc.tracks, 0xFF, chance.randrange(256)))
 
 
 def watched():
