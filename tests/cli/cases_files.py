@@ -222,9 +222,13 @@ def _():
     interrupt((signal.SIGINT, signal.SIGTERM), 100, may_leave=False)
 
 
-@case("signals: SIGKILL leaves the old or the new image whole, 50 times")
+# TANDOS_KILLS=500 for a long run.
+KILLS = int(os.environ.get("TANDOS_KILLS", "50"))
+
+
+@case(f"signals: SIGKILL leaves the old or the new image whole, {KILLS} times")
 def _():
-    interrupt((signal.SIGKILL,), 50, may_leave=True)
+    interrupt((signal.SIGKILL,), KILLS, may_leave=True)
 
 
 def interrupt(signals, times, may_leave):

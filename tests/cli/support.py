@@ -52,9 +52,11 @@ def empty_folder():
                     os.chmod(entry.path, 0o755)
 
 
-def run_cases():
+def run_cases(word=""):
+    """Runs the cases whose name has the word."""
+    chosen = [case for case in _cases if word in case[0]]
     failed = 0
-    for name, function in _cases:
+    for name, function in chosen:
         try:
             with empty_folder():
                 function()
@@ -62,8 +64,8 @@ def run_cases():
         except Exception:
             failed += 1
             print(f"FAILED: {name}\n{traceback.format_exc()}", flush=True)
-    print(f"cli tests: {len(_cases) - failed} passed, {failed} failed")
-    return 1 if failed else 0
+    print(f"cli tests: {len(chosen) - failed} passed, {failed} failed")
+    return 1 if failed or not chosen else 0
 
 
 class Answer:
