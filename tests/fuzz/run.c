@@ -13,13 +13,13 @@
 /* Inputs mostly give images of few tracks, on which calls take less time. */
 #define SMALL_STARTS 224
 #define SMALL_TRACKS 4
-#define SMALL_LENGTHS 4 /* by the highest byte of a length */
+#define ANY_LENGTHS 4 /* below this highest byte of three */
 
 /* Two moments, so that the one before a command is kept; too large for the
  * stack. */
 static struct moment moments[2];
-static struct moment *now = &moments[0];
-static struct moment *before = &moments[1];
+static struct moment *const now = &moments[0];
+static struct moment *const before = &moments[1];
 static int is_state_known;
 
 static void know_state(void)
@@ -249,7 +249,7 @@ static size_t take_image_length(struct input *input)
 {
     uint32_t length = take(input, 3);
 
-    if (length >> 16 < SMALL_LENGTHS)
+    if (length >> 16 < ANY_LENGTHS)
         return length % (IMAGE_MOST + 1);
     return length % (TANDOS_IMAGE_SIZE(SMALL_TRACKS) + 1);
 }
