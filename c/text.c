@@ -9,15 +9,17 @@ struct refusal {
 static const struct refusal refusals[] = {
     [TANDOS_DONE] = { "DONE", "Done: nothing was refused." },
     [TANDOS_SIZE] = { "SIZE",
-        "The image is not 2,560 bytes long for each of 1 to 80 tracks: "
-        "open a whole image of one side of a single density disc." },
+        "The image is not 2,560 bytes long for each of 1 to 80 tracks, or the "
+        "arrangement is neither 0 (plain) nor 1 (moved): open a whole image of "
+        "one side of a single density disc, and state its arrangement." },
     [TANDOS_NAME] = { "NAME",
         "The name breaks its rule: give a file name of 1 to 6 of A-Z and 0-9, "
         "then nothing or a dot and 1 to 3 of the same, "
         "or a disc name of 1 to 9 of A-Z and 0-9." },
     [TANDOS_UNSOUND] = { "UNSOUND",
-        "The disc is damaged: check it to see which rule is broken, "
-        "and go on with a sound copy of it." },
+        "The disc is damaged, or its arrangement is not the one stated: "
+        "check it in both, and go on in the one that is sound "
+        "or with a sound copy of it." },
     [TANDOS_ABSENT] = { "ABSENT",
         "No file on the disc has this name: "
         "list the disc to see the names that stand." },

@@ -2,12 +2,12 @@
 #include "tandos.h"
 
 const uint8_t *tandos_view(const uint8_t *image, size_t image_len,
+                           uint32_t arrangement,
                            uint32_t track, uint32_t sector)
 {
-    size_t number;
+    uint32_t start = tandos_view_start(image, image_len, arrangement, track,
+                                       sector);
 
-    if (tandos_view_number(image, image_len, track, sector) != TANDOS_DONE)
-        return NULL;
-    number = (size_t)track * TANDOS_SECTORS_PER_TRACK + sector - 1;
-    return image + number * TANDOS_SECTOR_SIZE + TANDOS_LINK_SIZE;
+    /* A view begins after its sector's link, so never at byte 0. */
+    return start == 0 ? NULL : image + start;
 }

@@ -4,6 +4,9 @@
 
 #include "message.h"
 #include "number.h"
+#include "tandos.h"
+
+static const struct option moved_option = { "--moved", NULL, false };
 
 /* The part of an argument after the option's own text: NULL where the argument
  * is another option. "--page=3" leaves "=3", "-oFILE" leaves "FILE". */
@@ -19,6 +22,16 @@ static const char *rest_after(const struct option *option, const char *argument)
     return NULL;
 }
 
+static enum status expect_no_value(const struct arguments *arguments,
+                                   const struct option *option,
+                                   const char *rest)
+{
+    if (*rest == '\0')
+        return STATUS_DONE;
+    return say_misuse(arguments->command, "no value goes with option",
+                      option->word);
+}
+
 /* Stores an option's value; the next argument is taken where the option has
  * none attached to it. */
 static enum status take_option(struct arguments *arguments, size_t number,
@@ -26,11 +39,8 @@ static enum status take_option(struct arguments *arguments, size_t number,
                                const char **next)
 {
     if (!option->takes_value) {
-        if (*rest != '\0')
-            return say_misuse(arguments->command, "no value goes with option",
-                              option->word);
         arguments->option[number] = "";
-        return STATUS_DONE;
+        return expect_no_value(arguments, option, rest);
     }
     if (*rest != '\0') {
         arguments->option[number] = *rest == '=' ? rest + 1 : rest;
@@ -49,15 +59,19 @@ static enum status parse_one(struct arguments *arguments,
                              const struct option *options,
                              const char *argument, const char **next)
 {
+    const char *rest = rest_after(&moved_option, argument);
     size_t i;
 
     if (strcmp(argument, "--help") == 0 || strcmp(argument, "-h") == 0) {
         arguments->wants_help = true;
         return STATUS_DONE;
     }
+    if (rest != NULL) {
+        arguments->arrangement = TANDOS_MOVED;
+        return expect_no_value(arguments, &moved_option, rest);
+    }
     for (i = 0; options[i].word != NULL; i++) {
-        const char *rest = rest_after(&options[i], argument);
-
+        rest = rest_after(&options[i], argument);
         if (rest != NULL)
             return take_option(arguments, i, &options[i], rest, next);
     }

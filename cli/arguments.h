@@ -8,6 +8,7 @@
 
 #include "status.h"
 
+/* Beside --help and --moved, which are parsed for every subcommand. */
 #define MAX_OPTIONS 3
 
 struct option {
@@ -21,6 +22,7 @@ struct arguments {
     /* For each option of the subcommand, in its order: NULL where it is not
      * given, else its value, "" for an option without one. */
     const char *option[MAX_OPTIONS];
+    uint32_t arrangement; /* TANDOS_PLAIN, or with --moved TANDOS_MOVED */
     char **operand;
     size_t operands;
     bool wants_help;

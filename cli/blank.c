@@ -33,7 +33,7 @@ static enum status store(const char *path, const uint8_t *bytes, size_t length,
 
 static enum status run(const struct arguments *arguments)
 {
-    static uint8_t bytes[IMAGE_BUFFER_SIZE];
+    static struct image image;
     const char *path = arguments->operand[0];
     const char *name = arguments->operand[2];
     uint32_t tracks, number;
@@ -45,18 +45,20 @@ static enum status run(const struct arguments *arguments)
         return say_misuse(arguments->command,
                           "a number of tracks is wanted, not",
                           arguments->operand[1]);
-    number = tandos_blank(bytes, length_of(tracks), (const uint8_t *)name,
-                          strlen(name));
+    image.length = length_of(tracks);
+    image.arrangement = arguments->arrangement;
+    number = tandos_blank(TANDOS_ON(image), TANDOS_TEXT(name));
     if (number != TANDOS_DONE)
-        return say_refused(path, number);
-    return store(path, bytes, length_of(tracks),
+        return say_refused(path, number, "");
+    return store(path, image.bytes, image.length,
                  arguments->option[FORCE] != NULL);
 }
 
 const struct command blank_command = {
-    "blank", "IMAGE TRACKS NAME [--force]", "Make a blank disc.",
+    "blank", "IMAGE TRACKS NAME [--force] [--moved]", "Make a blank disc.",
     "TRACKS is 1 to 80; NAME is 1 to 9 of A-Z and 0-9.\n"
     "A file that stands already is kept, with exit status 2.\n\n"
-    "  --force   replace it\n",
+    "  --force   replace it\n"
+    "  --moved   make the image in the moved arrangement\n",
     3, 3, { { "--force", NULL, false } }, run
 };

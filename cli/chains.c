@@ -48,7 +48,7 @@ static struct pair stored_pair(const uint8_t *bytes)
 /* Track, then sector: so links stand. */
 static struct pair link_of(const struct chains *chains, unsigned number)
 {
-    const uint8_t *bytes = chains->image + (size_t)number * TANDOS_SECTOR_SIZE;
+    const uint8_t *bytes = chains->sector[number].bytes;
     struct pair pair;
 
     pair.track = bytes[0];
@@ -115,11 +115,16 @@ static void walk(struct chains *chains, unsigned number)
     }
 }
 
+static const uint8_t *system_sector(const struct chains *chains)
+{
+    return chains->sector[0].bytes;
+}
+
 static void follow_directory(struct chains *chains)
 {
     struct chain *directory = &chains->chain[DIRECTORY_CHAIN];
 
-    directory->first = stored_pair(chains->image + DIRECTORY_POINTER);
+    directory->first = stored_pair(system_sector(chains) + DIRECTORY_POINTER);
     walk(chains, DIRECTORY_CHAIN);
     /* Nothing on the disc says how long its directory is. */
     directory->said_length = directory->length;
@@ -129,8 +134,8 @@ static void follow_free(struct chains *chains)
 {
     struct chain *free_chain = &chains->chain[FREE_CHAIN];
 
-    free_chain->first = stored_pair(chains->image + FREE_POINTER);
-    free_chain->said_length = word_at(chains->image + FREE_COUNT);
+    free_chain->first = stored_pair(system_sector(chains) + FREE_POINTER);
+    free_chain->said_length = word_at(system_sector(chains) + FREE_COUNT);
     /* Without a free sector there is no chain to follow. */
     if (free_chain->first.sector != 0)
         walk(chains, FREE_CHAIN);
@@ -145,8 +150,7 @@ static bool is_free_slot(const uint8_t *slot)
 
 static void add_files_of(struct chains *chains, unsigned sector)
 {
-    const uint8_t *slot =
-        chains->image + (size_t)sector * TANDOS_SECTOR_SIZE + FIRST_SLOT;
+    const uint8_t *slot = chains->sector[sector].bytes + FIRST_SLOT;
     unsigned i;
 
     for (i = 0; i < SLOTS_PER_SECTOR; i++, slot += SLOT_SIZE) {
@@ -175,19 +179,31 @@ static void follow_files(struct chains *chains)
         walk(chains, i);
 }
 
-void follow_chains(struct chains *chains, const uint8_t *image, size_t length)
+/* The sectors of the image, none of them met. */
+static void find_sectors(struct chains *chains)
 {
     unsigned i;
 
+    chains->tracks = (unsigned)(chains->image->length / TANDOS_TRACK_SIZE);
+    chains->sectors = chains->tracks * TANDOS_SECTORS_PER_TRACK;
+    for (i = 0; i < chains->sectors; i++) {
+        struct pair pair = pair_of(i);
+
+        chains->sector[i].bytes =
+            chains->image->bytes +
+            sector_start(chains->image, pair.track, pair.sector);
+        chains->met_by[i] = NO_CHAIN;
+    }
+}
+
+void follow_chains(struct chains *chains, const struct image *image)
+{
     memset(chains, 0, sizeof *chains);
     chains->image = image;
-    chains->disc_name = image + DISC_NAME;
-    chains->tracks = (unsigned)(length / TANDOS_TRACK_SIZE);
-    chains->sectors = chains->tracks * TANDOS_SECTORS_PER_TRACK;
+    find_sectors(chains);
+    chains->disc_name = system_sector(chains) + DISC_NAME;
     chains->count = FIRST_FILE_CHAIN;
-    chains->said_used = word_at(image + USED_COUNT);
-    for (i = 0; i < MAX_SECTORS; i++)
-        chains->met_by[i] = NO_CHAIN;
+    chains->said_used = word_at(system_sector(chains) + USED_COUNT);
     meet(chains, 0, SYSTEM_CHAIN, 1);
     chains->chain[SYSTEM_CHAIN].length = 1;
     follow_directory(chains);

@@ -10,6 +10,7 @@
 #include <stddef.h>
 #include <stdint.h>
 
+#include "image.h"
 #include "tandos.h"
 
 #define MAX_SECTORS (TANDOS_MAX_TRACKS * TANDOS_SECTORS_PER_TRACK)
@@ -51,13 +52,14 @@ struct meeting {
 };
 
 struct sector {
+    const uint8_t *bytes; /* in the image, its link first */
     unsigned meetings;
     struct meeting first, second;
     bool links_off; /* a chain leaves the disc by its link */
 };
 
 struct chains {
-    const uint8_t *image;
+    const struct image *image;
     const uint8_t *disc_name; /* nine bytes */
     unsigned tracks, sectors;
     unsigned count;      /* of chains */
@@ -74,7 +76,7 @@ struct chains {
 /* Follows every chain of an image of a right size: the directory, the files
  * in directory order, the free chain. The image is lent as long as the answer
  * is used. */
-void follow_chains(struct chains *chains, const uint8_t *image, size_t length);
+void follow_chains(struct chains *chains, const struct image *image);
 
 /* The place of a sector by its number. */
 struct pair pair_of(unsigned number);

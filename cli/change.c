@@ -7,20 +7,20 @@
 
 static struct image image;
 
-static const uint8_t *bytes_of(const char *text)
+static enum status load(const struct arguments *arguments)
 {
-    return (const uint8_t *)text;
+    return load_image_for_change(&image, arguments->operand[0],
+                                 arguments->arrangement, arguments->command);
 }
 
 static enum status run_delete(const struct arguments *arguments)
 {
     const char *name = arguments->operand[1];
 
-    if (load_image_for_change(&image, arguments->operand[0],
-                              arguments->command) != STATUS_DONE)
+    if (load(arguments) != STATUS_DONE)
         return STATUS_FAILED;
-    return store_image(&image, tandos_delete(image.bytes, image.length,
-                                             bytes_of(name), strlen(name)));
+    return store_image(&image,
+                       tandos_delete(TANDOS_ON(image), TANDOS_TEXT(name)));
 }
 
 static enum status run_rename(const struct arguments *arguments)
@@ -28,14 +28,11 @@ static enum status run_rename(const struct arguments *arguments)
     const char *old_name = arguments->operand[1];
     const char *new_name = arguments->operand[2];
 
-    if (load_image_for_change(&image, arguments->operand[0],
-                              arguments->command) != STATUS_DONE)
+    if (load(arguments) != STATUS_DONE)
         return STATUS_FAILED;
-    return store_image(&image, tandos_rename(image.bytes, image.length,
-                                             bytes_of(old_name),
-                                             strlen(old_name),
-                                             bytes_of(new_name),
-                                             strlen(new_name)));
+    return store_image(&image,
+                       tandos_rename(TANDOS_ON(image), TANDOS_TEXT(old_name),
+                                     TANDOS_TEXT(new_name)));
 }
 
 static enum status run_protect(const struct arguments *arguments)
@@ -46,29 +43,30 @@ static enum status run_protect(const struct arguments *arguments)
     if (!on && strcmp(arguments->operand[2], "off") != 0)
         return say_misuse(arguments->command, "'on' or 'off' is wanted, not",
                           arguments->operand[2]);
-    if (load_image_for_change(&image, arguments->operand[0],
-                              arguments->command) != STATUS_DONE)
+    if (load(arguments) != STATUS_DONE)
         return STATUS_FAILED;
-    return store_image(&image, tandos_protect(image.bytes, image.length,
-                                              bytes_of(name), strlen(name),
-                                              on));
+    return store_image(&image, tandos_protect(TANDOS_ON(image),
+                                              TANDOS_TEXT(name), on));
 }
 
 const struct command delete_command = {
-    "delete", "IMAGE NAME", "Delete a file of a disc.",
-    "A protected file is not deleted: lift its protection first.\n",
+    "delete", "IMAGE NAME [--moved]", "Delete a file of a disc.",
+    "A protected file is not deleted: lift its protection first.\n\n"
+    MOVED_HELP,
     2, 2, { { 0 } }, run_delete
 };
 
 const struct command rename_command = {
-    "rename", "IMAGE OLD NEW", "Give a file of a disc another name.",
-    "A protected file is not renamed: lift its protection first.\n",
+    "rename", "IMAGE OLD NEW [--moved]", "Give a file of a disc another name.",
+    "A protected file is not renamed: lift its protection first.\n\n"
+    MOVED_HELP,
     3, 3, { { 0 } }, run_rename
 };
 
 const struct command protect_command = {
-    "protect", "IMAGE NAME on|off",
+    "protect", "IMAGE NAME on|off [--moved]",
     "Protect a file of a disc, or lift its protection.",
-    "A protected file can be neither deleted nor renamed.\n",
+    "A protected file can be neither deleted nor renamed.\n\n"
+    MOVED_HELP,
     3, 3, { { 0 } }, run_protect
 };

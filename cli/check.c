@@ -2,18 +2,19 @@
 #include <stdio.h>
 #include <string.h>
 
+#include "arrangement.h"
 #include "commands.h"
 #include "image.h"
 #include "message.h"
 
-static enum status check_one(const char *path)
+static enum status check_one(const char *path, uint32_t arrangement)
 {
     static struct image image;
     tandos_checked checked;
 
-    if (load_image(&image, path) != STATUS_DONE)
+    if (load_image(&image, path, arrangement) != STATUS_DONE)
         return STATUS_FAILED;
-    checked = tandos_check(image.bytes, image.length);
+    checked = tandos_check(TANDOS_ON(image));
     if (checked.number != TANDOS_DONE) {
         /* On standard output, like the other lines: one for each image. */
         printf("%s: refused with %lu, %s. %s\n", input_name(path),
@@ -22,7 +23,8 @@ static enum status check_one(const char *path)
                tandos_refusal_text(checked.number));
         return STATUS_REFUSED;
     }
-    printf("%s: %s\n", input_name(path), tandos_rule_text(checked.rule));
+    printf("%s: %s%s\n", input_name(path), tandos_rule_text(checked.rule),
+           arrangement_hint(&image));
     return checked.rule == 0 ? STATUS_DONE : STATUS_REFUSED;
 }
 
@@ -32,7 +34,8 @@ static enum status run(const struct arguments *arguments)
     size_t i;
 
     for (i = 0; i < arguments->operands; i++) {
-        enum status status = check_one(arguments->operand[i]);
+        enum status status =
+            check_one(arguments->operand[i], arguments->arrangement);
 
         if (status > worst)
             worst = status;
@@ -41,9 +44,10 @@ static enum status run(const struct arguments *arguments)
 }
 
 const struct command check_command = {
-    "check", "IMAGE..", "Check that discs are sound.",
+    "check", "IMAGE.. [--moved]", "Check that discs are sound.",
     "Prints one line for each image: that it is sound, or the lowest-numbered\n"
     "rule that is broken. Exit status 0 only if all are sound, 1 if one is\n"
-    "not, 2 if one could not be read.\n",
+    "not, 2 if one could not be read.\n\n"
+    "  --moved   the images are in the moved arrangement\n",
     1, ANY_NUMBER, { { 0 } }, run
 };

@@ -9,6 +9,9 @@
 
 #define ANY_NUMBER ((size_t)-1)
 
+/* The line on --moved, for details whose other options are as short. */
+#define MOVED_HELP "  --moved   the image is in the moved arrangement\n"
+
 struct command {
     const char *name;
     const char *synopsis; /* what follows the name on the command line */
@@ -29,5 +32,6 @@ extern const struct command protect_command;
 extern const struct command check_command;
 extern const struct command view_command;
 extern const struct command map_command;
+extern const struct command rearrange_command;
 
 #endif

@@ -5,6 +5,7 @@
 #include <string.h>
 #include <unistd.h>
 
+#include "arrangement.h"
 #include "bytes.h"
 #include "message.h"
 #include "replace.h"
@@ -17,13 +18,15 @@ static enum status read_image(struct image *image, int file)
     return STATUS_DONE;
 }
 
-enum status load_image(struct image *image, const char *path)
+enum status load_image(struct image *image, const char *path,
+                       uint32_t arrangement)
 {
     bool is_standard = strcmp(path, "-") == 0;
     int file = is_standard ? STDIN_FILENO : open(path, O_RDONLY);
     enum status status;
 
     image->path = path;
+    image->arrangement = arrangement;
     if (file < 0)
         return say_failed(path, "cannot open");
     status = read_image(image, file);
@@ -69,12 +72,13 @@ static int open_locked(const char *path)
 }
 
 enum status load_image_for_change(struct image *image, const char *path,
-                                  const char *command)
+                                  uint32_t arrangement, const char *command)
 {
     struct stat named;
     int file;
 
     image->path = path;
+    image->arrangement = arrangement;
     if (strcmp(path, "-") == 0)
         return say_misuse(command, "an image that is changed is a file, not",
                           path);
@@ -89,8 +93,14 @@ enum status load_image_for_change(struct image *image, const char *path,
 enum status store_image(const struct image *image, uint32_t number)
 {
     if (number != TANDOS_DONE)
-        return say_refused(image->path, number);
+        return say_image_refused(image, number);
     return replace_file(image->path, image->bytes, image->length, true);
+}
+
+size_t sector_start(const struct image *image, unsigned track, unsigned sector)
+{
+    return tandos_view_start(TANDOS_ON(*image), track, sector) -
+           TANDOS_LINK_SIZE;
 }
 
 bool is_image_file(const struct image *image, const struct stat *file)

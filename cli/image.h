@@ -17,12 +17,15 @@
 struct image {
     const char *path;
     struct stat file; /* which file it was read from */
-    size_t length;
+    /* Lent to a call by TANDOS_ON. */
     uint8_t bytes[IMAGE_BUFFER_SIZE];
+    size_t length;
+    uint32_t arrangement; /* as the command line states it */
 };
 
 /* For the commands that only read: "-" is standard input. */
-enum status load_image(struct image *image, const char *path);
+enum status load_image(struct image *image, const char *path,
+                       uint32_t arrangement);
 
 /*
  * For the commands that change the image. The file is locked until the process
@@ -30,11 +33,16 @@ enum status load_image(struct image *image, const char *path);
  * first one wrote. Without that the first one's change would be lost.
  */
 enum status load_image_for_change(struct image *image, const char *path,
-                                  const char *command);
+                                  uint32_t arrangement, const char *command);
 
 /* Replaces the image's file if `number` is TANDOS_DONE; otherwise says what
  * was refused and writes nothing. */
 enum status store_image(const struct image *image, uint32_t number);
+
+/* Where a sector that is on the disc begins in the image, its link first. The
+ * image is of a right size. */
+size_t sector_start(const struct image *image, unsigned track,
+                    unsigned sector);
 
 /* Whether a path leads to the file that the image was read from. */
 bool is_image_file(const struct image *image, const struct stat *file);

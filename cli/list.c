@@ -2,6 +2,7 @@
 #include <stdio.h>
 #include <unistd.h>
 
+#include "arrangement.h"
 #include "commands.h"
 #include "image.h"
 #include "message.h"
@@ -13,6 +14,7 @@ enum { TABLE, JSON };
 struct disc_record {
     const uint8_t *name;
     unsigned tracks, free_count, used_count, files;
+    bool is_moved;
 };
 
 struct file_record {
@@ -42,6 +44,7 @@ static struct disc_record disc_record(const struct image *image,
     disc.used_count = word_at(records + 12);
     disc.files = (unsigned)((length - TANDOS_LIST_SIZE(0)) /
                             TANDOS_FILE_RECORD_SIZE);
+    disc.is_moved = image->arrangement == TANDOS_MOVED;
     return disc;
 }
 
@@ -50,10 +53,11 @@ static void print_table(struct disc_record disc, const uint8_t *record)
     char text[NAME_TEXT_SIZE];
     unsigned i;
 
-    printf("Disc %s: %u track%s, %u sector%s free, %u in %u file%s\n",
+    printf("Disc %s: %u track%s%s, %u sector%s free, %u in %u file%s\n",
            disc_name_text(disc.name, text), disc.tracks, plural(disc.tracks),
-           disc.free_count, plural(disc.free_count), disc.used_count,
-           disc.files, plural(disc.files));
+           disc.is_moved ? ", moved" : "", disc.free_count,
+           plural(disc.free_count), disc.used_count, disc.files,
+           plural(disc.files));
     if (disc.files > 0)
         puts("\nNAME        SECTORS");
     for (i = 0; i < disc.files; i++, record += TANDOS_FILE_RECORD_SIZE) {
@@ -69,8 +73,9 @@ static void print_rows(struct disc_record disc, const uint8_t *record)
     char text[NAME_TEXT_SIZE];
     unsigned i;
 
-    printf("disc\t%s\t%u\t%u\t%u\n", disc_name_text(disc.name, text),
-           disc.tracks, disc.free_count, disc.used_count);
+    printf("disc\t%s\t%u\t%u\t%u%s\n", disc_name_text(disc.name, text),
+           disc.tracks, disc.free_count, disc.used_count,
+           disc.is_moved ? "\tmoved" : "");
     for (i = 0; i < disc.files; i++, record += TANDOS_FILE_RECORD_SIZE) {
         struct file_record file = file_record(record);
 
@@ -87,8 +92,9 @@ static void print_json(struct disc_record disc, const uint8_t *record)
     printf("{\"disc\": {\"name\": ");
     print_json_string(stdout, disc.name,
                       unpadded_length(disc.name, TANDOS_NAME_SIZE));
-    printf(", \"tracks\": %u, \"free\": %u, \"used\": %u},\n \"files\": [",
-           disc.tracks, disc.free_count, disc.used_count);
+    printf(", \"tracks\": %u, \"free\": %u, \"used\": %u%s},\n \"files\": [",
+           disc.tracks, disc.free_count, disc.used_count,
+           disc.is_moved ? ", \"arrangement\": \"moved\"" : "");
     for (i = 0; i < disc.files; i++, record += TANDOS_FILE_RECORD_SIZE) {
         struct file_record file = file_record(record);
 
@@ -111,11 +117,12 @@ static enum status run(const struct arguments *arguments)
     if (arguments->option[TABLE] && arguments->option[JSON])
         return say_misuse(arguments->command, "--table and --json exclude "
                           "each other", NULL);
-    if (load_image(&image, arguments->operand[0]) != STATUS_DONE)
+    if (load_image(&image, arguments->operand[0], arguments->arrangement) !=
+        STATUS_DONE)
         return STATUS_FAILED;
-    listed = tandos_list(image.bytes, image.length, records, sizeof records);
+    listed = tandos_list(TANDOS_ON(image), records, sizeof records);
     if (listed.number != TANDOS_DONE)
-        return say_refused(image.path, listed.number);
+        return say_image_refused(&image, listed.number);
     disc = disc_record(&image, records, listed.length);
     if (arguments->option[JSON])
         print_json(disc, files);
@@ -127,12 +134,13 @@ static enum status run(const struct arguments *arguments)
 }
 
 const struct command list_command = {
-    "list", "IMAGE [--table | --json]", "List the files of a disc.",
+    "list", "IMAGE [--table | --json] [--moved]", "List the files of a disc.",
     "On a terminal a table; otherwise rows of fields parted by tabs:\n"
-    "  disc, name, tracks, free sectors, sectors in files\n"
+    "  disc, name, tracks, free sectors, sectors in files, 'moved' if it is\n"
     "  file, name, sectors, 'protected' or '-'\n"
     "A byte of the disc's name that cannot be printed is shown as \\xHH.\n\n"
     "  --table   a table in any case\n"
-    "  --json    JSON; a byte of a name is the character of its number\n",
+    "  --json    JSON; a byte of a name is the character of its number\n"
+    MOVED_HELP,
     1, 1, { { "--table", NULL, false }, { "--json", NULL, false } }, run
 };

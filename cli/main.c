@@ -9,7 +9,7 @@
 static const struct command *const commands[] = {
     &blank_command,  &list_command,   &read_command,    &save_command,
     &delete_command, &rename_command, &protect_command, &check_command,
-    &view_command,   &map_command
+    &view_command,   &map_command,    &rearrange_command
 };
 
 #define COMMANDS (sizeof commands / sizeof commands[0])
@@ -22,11 +22,14 @@ static void print_help(void)
          "Works on the files of a TANDOS 65 disc image.\n\n"
          "Commands:");
     for (i = 0; i < COMMANDS; i++)
-        printf("  %-8s %s\n", commands[i]->name, commands[i]->summary);
+        printf("  %-10s %s\n", commands[i]->name, commands[i]->summary);
     puts("\n'tandos COMMAND --help' has what a command takes.\n"
          "'tandos --version' prints the version.\n\n"
          "'-' stands for standard input where an IMAGE or FILE is only read,\n"
          "and for standard output where a FILE is written.\n\n"
+         "An image is plain: it has the sectors of a track in the order of\n"
+         "their numbers. --moved states that it has them in passing order,\n"
+         "1, 4, 7, 10, 3, 6, 9, 2, 5, 8.\n\n"
          "A changed image is written whole or not at all; a refused command\n"
          "writes nothing.\n\n"
          "Exit status: 0 done; 1 refused, or an image that is not sound;\n"

@@ -5,6 +5,7 @@
 #include <string.h>
 #include <unistd.h>
 
+#include "arrangement.h"
 #include "commands.h"
 #include "image.h"
 #include "message.h"
@@ -61,7 +62,7 @@ static enum status write_svg(const char *path, const struct image *image,
         status = write_output(path, image, (const uint8_t *)text, length);
     free(text);
     if (status == STATUS_DONE && rule != 0)
-        say_problem(input_name(image->path), tandos_rule_text(rule));
+        status = say_broken(image->path, rule, arrangement_hint(image));
     return status;
 }
 
@@ -74,12 +75,13 @@ static enum status run(const struct arguments *arguments)
     enum status status = STATUS_DONE;
 
     if (parse_colour(arguments, &is_coloured) != STATUS_DONE ||
-        load_image(&image, arguments->operand[0]) != STATUS_DONE)
+        load_image(&image, arguments->operand[0], arguments->arrangement) !=
+            STATUS_DONE)
         return STATUS_FAILED;
-    checked = tandos_check(image.bytes, image.length);
+    checked = tandos_check(TANDOS_ON(image));
     if (checked.number != TANDOS_DONE)
-        return say_refused(image.path, checked.number);
-    follow_chains(&chains, image.bytes, image.length);
+        return say_image_refused(&image, checked.number);
+    follow_chains(&chains, &image);
     if (arguments->option[SVG])
         status = write_svg(arguments->option[SVG], &image, &chains,
                            checked.rule);
@@ -91,7 +93,7 @@ static enum status run(const struct arguments *arguments)
 }
 
 const struct command map_command = {
-    "map", "IMAGE [--color=WHEN] [--svg FILE]",
+    "map", "IMAGE [--color=WHEN] [--svg FILE] [--moved]",
     "Show which file or chain each sector belongs to.",
     "Prints a row for each track, and a legend. Of an unsound image also the\n"
     "broken rule and the sectors that are met more than once, lost, or linked\n"
@@ -99,6 +101,7 @@ const struct command map_command = {
     "  --color=WHEN   always, never, or auto: in colour on a terminal unless\n"
     "                 NO_COLOR is set\n"
     "  --svg FILE     write a picture to FILE instead, with each sector's\n"
-    "                 order in its chain\n",
+    "                 order in its chain\n"
+    "  --moved        the image is in the moved arrangement\n",
     1, 1, { { "--color", NULL, true }, { "--svg", NULL, true } }, run
 };

@@ -8,7 +8,8 @@
 
 #include "chains.h"
 
-/* `rule` is the broken rule that the check has found, or 0. */
+/* `rule` is the broken rule that the check has found, or 0; both maps tell of
+ * the arrangement, and of the other one where the disc is sound in that. */
 void print_map(FILE *to, const struct chains *chains, uint32_t rule,
                bool is_coloured);
 

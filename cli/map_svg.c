@@ -1,4 +1,7 @@
 /* The map as a picture, SVG 1.1. */
+#include <string.h>
+
+#include "arrangement.h"
 #include "map.h"
 #include "text.h"
 
@@ -77,9 +80,20 @@ static void print_head(FILE *to, const struct chains *chains, uint32_t rule)
             "fill=\"#ffffff\"/>\n<text x=\"%d\" y=\"28\" font-size=\"18\">Disc ",
             picture_width(chains), picture_height(chains), MARGIN);
     print_xml_text(to, text);
-    fprintf(to, ": %u track%s</text>\n<text x=\"%d\" y=\"52\"%s>",
-            chains->tracks, plural(chains->tracks), MARGIN, rule == 0 ? "" : " fill=\"#c00000\"");
+    fprintf(to, ": %u track%s%s</text>\n<text x=\"%d\" y=\"52\"%s>",
+            chains->tracks, plural(chains->tracks), moved_mark(chains->image),
+            MARGIN, rule == 0 ? "" : " fill=\"#c00000\"");
     print_xml_text(to, tandos_rule_text(rule));
+    fputs("</text>\n", to);
+}
+
+/* Above the legend, where there is room for it. */
+static void print_hint(FILE *to, const char *hint)
+{
+    if (*hint == '\0')
+        return;
+    fprintf(to, "<text x=\"%d\" y=\"28\" fill=\"#c00000\">", LEGEND_LEFT);
+    print_xml_text(to, hint + strlen(" "));
     fputs("</text>\n", to);
 }
 
@@ -189,6 +203,7 @@ void print_map_svg(FILE *to, const struct chains *chains, uint32_t rule)
     unsigned i;
 
     print_head(to, chains, rule);
+    print_hint(to, arrangement_hint(chains->image));
     print_key(to, rule);
     print_rulers(to, chains);
     for (i = 0; i < chains->sectors; i++)

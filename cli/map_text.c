@@ -2,6 +2,7 @@
 #include <stdlib.h>
 #include <string.h>
 
+#include "arrangement.h"
 #include "map.h"
 #include "text.h"
 
@@ -137,9 +138,10 @@ void print_map(FILE *to, const struct chains *chains, uint32_t rule,
 {
     char text[NAME_TEXT_SIZE];
 
-    fprintf(to, "Disc %s: %u track%s. %s\n\n",
+    fprintf(to, "Disc %s: %u track%s%s. %s%s\n\n",
             disc_name_text(chains->disc_name, text), chains->tracks,
-            plural(chains->tracks), tandos_rule_text(rule));
+            plural(chains->tracks), moved_mark(chains->image),
+            tandos_rule_text(rule), arrangement_hint(chains->image));
     print_tracks(to, chains, is_coloured);
     print_legend(to, chains, is_coloured);
     if (rule == 0)

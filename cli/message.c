@@ -11,11 +11,18 @@ const char *input_name(const char *path)
     return strcmp(path, "-") == 0 ? "standard input" : path;
 }
 
-enum status say_refused(const char *path, uint32_t number)
+enum status say_refused(const char *path, uint32_t number, const char *hint)
 {
-    fprintf(stderr, "tandos: %s: refused with %lu, %s. %s\n", input_name(path),
-            (unsigned long)number, tandos_refusal_name(number),
-            tandos_refusal_text(number));
+    fprintf(stderr, "tandos: %s: refused with %lu, %s. %s%s\n",
+            input_name(path), (unsigned long)number,
+            tandos_refusal_name(number), tandos_refusal_text(number), hint);
+    return STATUS_REFUSED;
+}
+
+enum status say_broken(const char *path, uint32_t rule, const char *hint)
+{
+    fprintf(stderr, "tandos: %s: %s%s\n", input_name(path),
+            tandos_rule_text(rule), hint);
     return STATUS_REFUSED;
 }
 

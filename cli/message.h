@@ -10,8 +10,12 @@
 /* The name under which a path is spoken of: "-" is standard input. */
 const char *input_name(const char *path);
 
-/* A call refused: the image, the number, its name, and what to do. */
-enum status say_refused(const char *path, uint32_t number);
+/* A call refused: the image, the number, its name, and what to do. A hint is
+ * "" or a sentence more, with a space in front. */
+enum status say_refused(const char *path, uint32_t number, const char *hint);
+
+/* The rule that the check found broken, and a hint as above. */
+enum status say_broken(const char *path, uint32_t rule, const char *hint);
 
 /* A system call failed: errno says why. */
 enum status say_failed(const char *path, const char *what);

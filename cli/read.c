@@ -1,7 +1,7 @@
 /* tandos read: a file's sheet. */
 #include <stdio.h>
-#include <string.h>
 
+#include "arrangement.h"
 #include "commands.h"
 #include "image.h"
 #include "message.h"
@@ -28,12 +28,13 @@ static enum status run(const struct arguments *arguments)
     if (arguments->option[OUTPUT] && arguments->option[INFO])
         return say_misuse(arguments->command, "--output and --info exclude "
                           "each other", NULL);
-    if (load_image(&image, arguments->operand[0]) != STATUS_DONE)
+    if (load_image(&image, arguments->operand[0], arguments->arrangement) !=
+        STATUS_DONE)
         return STATUS_FAILED;
-    reading = tandos_read(image.bytes, image.length, (const uint8_t *)name,
-                          strlen(name), sheet, sizeof sheet);
+    reading = tandos_read(TANDOS_ON(image), TANDOS_TEXT(name), sheet,
+                          sizeof sheet);
     if (reading.number != TANDOS_DONE)
-        return say_refused(image.path, reading.number);
+        return say_image_refused(&image, reading.number);
     if (arguments->option[INFO]) {
         print_info(reading);
         return STATUS_DONE;
@@ -43,10 +44,11 @@ static enum status run(const struct arguments *arguments)
 }
 
 const struct command read_command = {
-    "read", "IMAGE NAME [-o FILE | --info]", "Read a file of a disc.",
+    "read", "IMAGE NAME [-o FILE | --info] [--moved]", "Read a file of a disc.",
     "Writes the file's bytes to standard output.\n\n"
     "  -o, --output FILE   write them to FILE instead\n"
     "  --info              print page, start, end, transfer and length of the\n"
-    "                      load module instead, each after its name and a tab\n",
+    "                      load module instead, each after its name and a tab\n"
+    "  --moved             the image is in the moved arrangement\n",
     2, 2, { { "--output", "-o", true }, { "--info", NULL, false } }, run
 };

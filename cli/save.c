@@ -1,6 +1,4 @@
 /* tandos save: a sheet as a new file. */
-#include <string.h>
-
 #include "bytes.h"
 #include "commands.h"
 #include "image.h"
@@ -40,23 +38,24 @@ static enum status run(const struct arguments *arguments)
         read_file(arguments->operand[2], sheet, sizeof sheet, &length) !=
             STATUS_DONE ||
         load_image_for_change(&image, arguments->operand[0],
+                              arguments->arrangement,
                               arguments->command) != STATUS_DONE)
         return STATUS_FAILED;
     return store_image(&image,
-                       tandos_save(image.bytes, image.length,
-                                   (const uint8_t *)name, strlen(name),
+                       tandos_save(TANDOS_ON(image), TANDOS_TEXT(name),
                                    numbers.page, (uint16_t)numbers.start,
                                    (uint16_t)numbers.transfer, sheet, length));
 }
 
 const struct command save_command = {
-    "save", "IMAGE NAME FILE [--page N] [--start ADDR] [--transfer ADDR]",
+    "save", "IMAGE NAME FILE [OPTION..]",
     "Save the bytes of FILE as a new file of a disc.",
     "NAME is 1 to 6 of A-Z and 0-9, then nothing, or a dot and 1 to 3 of the\n"
     "same. FILE has 1 to 65,536 - start bytes.\n\n"
     "  --page N          0 to 7; 0 if not given\n"
     "  --start ADDR      address of the first byte; 0x2000 if not given\n"
-    "  --transfer ADDR   transfer address; the start address if not given\n\n"
+    "  --transfer ADDR   transfer address; the start address if not given\n"
+    "  --moved           the image is in the moved arrangement\n\n"
     "Numbers are decimal, or hexadecimal after 0x or $ (which a shell wants\n"
     "in quotation marks: '$2000').\n",
     3, 3,

@@ -1,6 +1,7 @@
 /* tandos view: the bytes of a sector. */
 #include <stdio.h>
 
+#include "arrangement.h"
 #include "commands.h"
 #include "image.h"
 #include "message.h"
@@ -37,6 +38,15 @@ static void print_row(const uint8_t *view, unsigned row)
     puts("|");
 }
 
+/* An unsound image is shown too. But what is shown of an image that is sound
+ * in the other arrangement is most likely another sector than was meant. */
+static void tell_of_arrangement(const struct image *image)
+{
+    if (is_misstated(image))
+        say_broken(image->path, tandos_check(TANDOS_ON(*image)).rule,
+                   arrangement_hint(image));
+}
+
 static enum status run(const struct arguments *arguments)
 {
     static struct image image;
@@ -48,21 +58,24 @@ static enum status run(const struct arguments *arguments)
         return say_misuse(arguments->command,
                           "TRACK/SECTOR is wanted, such as 0/7, not",
                           arguments->operand[1]);
-    if (load_image(&image, arguments->operand[0]) != STATUS_DONE)
+    if (load_image(&image, arguments->operand[0], arguments->arrangement) !=
+        STATUS_DONE)
         return STATUS_FAILED;
-    number = tandos_view_number(image.bytes, image.length, track, sector);
-    view = tandos_view(image.bytes, image.length, track, sector);
+    number = tandos_view_number(TANDOS_ON(image), track, sector);
+    view = tandos_view(TANDOS_ON(image), track, sector);
     if (number != TANDOS_DONE || view == NULL)
-        return say_refused(image.path, number);
+        return say_image_refused(&image, number);
+    tell_of_arrangement(&image);
     for (row = 0; row < TANDOS_SECTOR_SIZE; row += ROW)
         print_row(view, row);
     return STATUS_DONE;
 }
 
 const struct command view_command = {
-    "view", "IMAGE TRACK/SECTOR", "Show the bytes of a sector.",
+    "view", "IMAGE TRACK/SECTOR [--moved]", "Show the bytes of a sector.",
     "Prints the 254 bytes after the sector's link, in hexadecimal and ASCII.\n"
     "Each row begins with the number of its first byte in the sector.\n"
-    "The image need not be sound.\n",
+    "The image need not be sound.\n\n"
+    MOVED_HELP,
     2, 2, { { 0 } }, run
 };

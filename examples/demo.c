@@ -12,14 +12,10 @@
 #define TRACKS 40
 #define SHEET_LENGTH 300
 
-static uint8_t image[TANDOS_IMAGE_SIZE(TRACKS)];
+/* The bytes are the program's own; the library keeps nothing. */
+static uint8_t bytes[TANDOS_IMAGE_SIZE(TRACKS)];
+static const tandos_image disc = { bytes, sizeof bytes, TANDOS_PLAIN };
 static const char name[] = "THU.PCS";
-
-/* C lends a name as its bytes and their number, without the zero at the end. */
-static const uint8_t *bytes_of(const char *text)
-{
-    return (const uint8_t *)text;
-}
 
 static void say_refused(const char *step, uint32_t number)
 {
@@ -45,15 +41,14 @@ static void make_disc(void)
     const char *disc_name = "PIECES";
 
     stop_if_refused("Making a blank disc",
-                    tandos_blank(image, sizeof image, bytes_of(disc_name),
-                                 strlen(disc_name)));
+                    tandos_blank(TANDOS_ON(disc), TANDOS_TEXT(disc_name)));
     printf("Made a blank disc of %d tracks, named %s.\n", TRACKS, disc_name);
 }
 
 static uint32_t save_sheet(const uint8_t *sheet)
 {
-    return tandos_save(image, sizeof image, bytes_of(name), strlen(name),
-                       0, 0x2000, 0x2000, sheet, SHEET_LENGTH);
+    return tandos_save(TANDOS_ON(disc), TANDOS_TEXT(name), 0, 0x2000, 0x2000,
+                       sheet, SHEET_LENGTH);
 }
 
 /* A name that stands already: refused, and the disc stays as it was. */
@@ -94,7 +89,7 @@ static void list_disc(void)
     static uint8_t records[TANDOS_LIST_MAX];
     const uint8_t *record = records + TANDOS_DISC_RECORD_SIZE;
     tandos_listed listed =
-        tandos_list(image, sizeof image, records, sizeof records);
+        tandos_list(TANDOS_ON(disc), records, sizeof records);
 
     stop_if_refused("Listing the disc", listed.number);
     printf("The disc ");
@@ -111,8 +106,7 @@ static void read_sheet(const uint8_t *sheet)
 {
     static uint8_t buffer[TANDOS_SHEET_MAX];
     tandos_reading reading =
-        tandos_read(image, sizeof image, bytes_of(name), strlen(name),
-                    buffer, sizeof buffer);
+        tandos_read(TANDOS_ON(disc), TANDOS_TEXT(name), buffer, sizeof buffer);
     int is_same;
 
     stop_if_refused("Reading the sheet", reading.number);
@@ -128,7 +122,7 @@ static void read_sheet(const uint8_t *sheet)
 
 static void check_disc(void)
 {
-    tandos_checked checked = tandos_check(image, sizeof image);
+    tandos_checked checked = tandos_check(TANDOS_ON(disc));
 
     stop_if_refused("Checking the disc", checked.number);
     printf("Checked the disc. %s\n", tandos_rule_text(checked.rule));

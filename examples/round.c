@@ -3,11 +3,12 @@
  * lists it, saves a correction, deletes last week's sheet, and says what was
  * done.
  *
- *     round CORRECTION FILE LAST-WEEK IMAGE..
+ *     round [--moved] CORRECTION FILE LAST-WEEK IMAGE..
  *
  * CORRECTION is the name of the new file on the discs, FILE holds its bytes,
- * LAST-WEEK is the name of the file to be deleted. A disc on which anything is
- * refused stays as it is. The exit status is 0 if every disc was done.
+ * LAST-WEEK is the name of the file to be deleted. With --moved the images are
+ * in the moved arrangement. A disc on which anything is refused stays as it is.
+ * The exit status is 0 if every disc was done.
  */
 #include <stdbool.h>
 #include <stdio.h>
@@ -26,16 +27,11 @@ struct task {
 };
 
 /* One byte more than any image has, so that a file that is too long is seen. */
-static uint8_t image[LONGEST_IMAGE + 1];
-static size_t image_length;
-
-static const uint8_t *bytes_of(const char *text)
-{
-    return (const uint8_t *)text;
-}
+static uint8_t bytes[LONGEST_IMAGE + 1];
+static tandos_image disc = { bytes, 0, TANDOS_PLAIN };
 
 /* As many bytes as a file has, at most `size`. */
-static bool read_file(const char *path, uint8_t *bytes, size_t size,
+static bool read_file(const char *path, uint8_t *buffer, size_t size,
                       size_t *length)
 {
     FILE *file = fopen(path, "rb");
@@ -45,7 +41,7 @@ static bool read_file(const char *path, uint8_t *bytes, size_t size,
         perror(path);
         return false;
     }
-    *length = fread(bytes, 1, size, file);
+    *length = fread(buffer, 1, size, file);
     is_read = !ferror(file);
     if (!is_read)
         perror(path);
@@ -60,7 +56,7 @@ static bool write_new(const char *path)
 
     if (file == NULL)
         return false;
-    is_written = fwrite(image, 1, image_length, file) == image_length;
+    is_written = fwrite(disc.bytes, 1, disc.length, file) == disc.length;
     return fclose(file) == 0 && is_written;
 }
 
@@ -94,7 +90,7 @@ static bool is_done(const char *step, uint32_t number)
 
 static bool check_image(void)
 {
-    tandos_checked checked = tandos_check(image, image_length);
+    tandos_checked checked = tandos_check(TANDOS_ON(disc));
 
     if (!is_done("The check", checked.number))
         return false;
@@ -102,9 +98,9 @@ static bool check_image(void)
     return checked.rule == 0;
 }
 
-static unsigned word_at(const uint8_t *bytes)
+static unsigned word_at(const uint8_t *word)
 {
-    return bytes[0] + 256u * bytes[1];
+    return word[0] + 256u * word[1];
 }
 
 static bool list_image(void)
@@ -112,7 +108,7 @@ static bool list_image(void)
     static uint8_t records[TANDOS_LIST_MAX];
     const uint8_t *record = records + TANDOS_DISC_RECORD_SIZE;
     tandos_listed listed =
-        tandos_list(image, image_length, records, sizeof records);
+        tandos_list(TANDOS_ON(disc), records, sizeof records);
 
     if (!is_done("The list", listed.number))
         return false;
@@ -128,19 +124,18 @@ static bool list_image(void)
 static bool change_image(const struct task *task)
 {
     if (!is_done("Saving the correction",
-                 tandos_save(image, image_length, bytes_of(task->correction),
-                             strlen(task->correction), 0, 0x2000, 0x2000,
-                             task->sheet, task->sheet_length)))
+                 tandos_save(TANDOS_ON(disc), TANDOS_TEXT(task->correction), 0,
+                             0x2000, 0x2000, task->sheet, task->sheet_length)))
         return false;
     return is_done("Deleting last week's sheet",
-                   tandos_delete(image, image_length, bytes_of(task->last_week),
-                                 strlen(task->last_week)));
+                   tandos_delete(TANDOS_ON(disc),
+                                 TANDOS_TEXT(task->last_week)));
 }
 
 static bool visit(const char *path, const struct task *task)
 {
     printf("%s\n", path);
-    if (!read_file(path, image, sizeof image, &image_length) ||
+    if (!read_file(path, bytes, sizeof bytes, &disc.length) ||
         !check_image() || !list_image() || !change_image(task) ||
         !write_image(path)) {
         printf("  Left as it was.\n");
@@ -156,8 +151,14 @@ int main(int argc, char **argv)
     static struct task task;
     int done = 0, i;
 
+    if (argc > 1 && strcmp(argv[1], "--moved") == 0) {
+        disc.arrangement = TANDOS_MOVED;
+        argc--;
+        argv++;
+    }
     if (argc < 5) {
-        fprintf(stderr, "Usage: round CORRECTION FILE LAST-WEEK IMAGE..\n");
+        fprintf(stderr, "Usage: round [--moved] CORRECTION FILE LAST-WEEK "
+                "IMAGE..\n");
         return 2;
     }
     task.correction = argv[1];

@@ -2,6 +2,9 @@
 
 use reference::generate::capacity;
 
+const PLAIN: u32 = 0;
+const MOVED: u32 = 1;
+
 /// Takes 80 sectors.
 const LARGE_BYTES: usize = 20_000;
 const LARGE_SECTORS: usize = 80;
@@ -11,24 +14,36 @@ const LEFT_FREE: usize = 10;
 const SHEET_BYTES: usize = 5000;
 const SHEET_SECTORS: usize = 20;
 
-/// An image and the name of the file that calls name, the last of the
-/// directory.
+/// An image, its arrangement and the name of the file that calls name, the last
+/// of the directory.
 #[derive(Debug, Clone)]
 pub struct Disc {
     pub image: Vec<u8>,
+    pub arrangement: u32,
     pub file: Vec<u8>,
 }
 
 fn blank(tracks: usize) -> Disc {
     let mut image = vec![0; 2560 * tracks];
-    assert_eq!(reference::blank(&mut image, b"BENCH"), 0);
+    assert_eq!(reference::blank(&mut image, PLAIN, b"BENCH"), 0);
     Disc {
         image,
+        arrangement: PLAIN,
         file: Vec::new(),
     }
 }
 
 impl Disc {
+    /// The same disc in the other arrangement.
+    pub fn moved(&self) -> Disc {
+        let image = reference::rearranged(&self.image, self.arrangement, MOVED);
+        Disc {
+            image: image.expect("the image is of a right size"),
+            arrangement: MOVED,
+            file: self.file.clone(),
+        }
+    }
+
     fn free(&self) -> usize {
         usize::from(u16::from_le_bytes([self.image[0x14], self.image[0x15]]))
     }
@@ -40,7 +55,12 @@ impl Disc {
     fn save(&mut self, name: String, length: usize) {
         self.file = name.into_bytes();
         let sheet: Vec<u8> = (0..length).map(|at| (at * 7) as u8).collect();
-        let number = reference::save(&mut self.image, &self.file, 0, 0x2000, 0x2000, &sheet);
+        let Disc {
+            image,
+            arrangement,
+            file,
+        } = self;
+        let number = reference::save(image, *arrangement, file, 0, 0x2000, 0x2000, &sheet);
         assert_eq!(number, 0, "the file fits");
     }
 
@@ -102,7 +122,7 @@ mod tests {
     use super::*;
 
     fn is_sound(disc: &Disc) -> bool {
-        let checked = reference::check(&disc.image);
+        let checked = reference::check(&disc.image, disc.arrangement);
         (checked.number, checked.rule) == (0, 0)
     }
 
@@ -110,8 +130,10 @@ mod tests {
     fn nearly_full_discs_keep_room_for_a_save() {
         for tracks in [5, 10, 20, 40, 80] {
             for disc in [few_large_files(tracks), few_large_files_and_sheet(tracks)] {
-                assert!(is_sound(&disc));
-                assert_eq!(disc.free(), LEFT_FREE);
+                for disc in [disc.moved(), disc] {
+                    assert!(is_sound(&disc));
+                    assert_eq!(disc.free(), LEFT_FREE);
+                }
             }
         }
         assert_eq!(few_large_files(40).file, b"LARGE3");
@@ -121,7 +143,7 @@ mod tests {
     fn small_files_stand_in_as_many_entries() {
         let disc = small_files_and_sheet(80, 600);
         assert!(is_sound(&disc));
-        let listed = reference::list(&disc.image, &mut vec![0; 65_536]);
+        let listed = reference::list(&disc.image, disc.arrangement, &mut vec![0; 65_536]);
         assert_eq!(listed.length, 14 + 13 * 601 + 1);
         assert_eq!(disc.file, b"SHEET");
     }

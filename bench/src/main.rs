@@ -1,5 +1,5 @@
-//! Times the library's calls against the second program's, on the same discs
-//! in one run.
+//! Times the library's calls against the second program's, on the same discs,
+//! plain and moved, in one run.
 
 #![forbid(unsafe_code)]
 

@@ -53,6 +53,7 @@ impl Operation {
 #[derive(Debug, Clone, PartialEq, Eq)]
 pub struct Lent {
     image: Vec<u8>,
+    arrangement: u32,
     file: Vec<u8>,
     sheet: Vec<u8>,
     buffer: Vec<u8>,
@@ -63,6 +64,7 @@ impl Lent {
     pub fn new(disc: &Disc) -> Lent {
         Lent {
             image: disc.image.clone(),
+            arrangement: disc.arrangement,
             file: disc.file.clone(),
             sheet: (0..SAVED_BYTES).map(|at| (at * 11) as u8).collect(),
             buffer: vec![0; BUFFER_BYTES],
@@ -76,30 +78,38 @@ impl Lent {
 pub fn repeat(operation: Operation, program: &Program, lent: &mut Lent, times: u32) -> u64 {
     let Lent {
         image,
+        arrangement,
         file,
         sheet,
         buffer,
         last_track,
     } = lent;
+    let arrangement = *arrangement;
     match operation {
         Operation::Check => summed(times, || {
-            let checked = (program.check)(image);
+            let checked = (program.check)(image, arrangement);
             checked.number + checked.rule
         }),
-        Operation::List => summed(times, || (program.list)(image, buffer).length),
-        Operation::Read => summed(times, || (program.read)(image, file, buffer).length),
+        Operation::List => summed(times, || (program.list)(image, arrangement, buffer).length),
+        Operation::Read => summed(times, || {
+            (program.read)(image, arrangement, file, buffer).length
+        }),
         Operation::SaveAndDelete => summed(times, || {
-            (program.save)(image, NEW_NAME, 0, 0x2000, 0x2000, sheet)
-                + (program.delete)(image, NEW_NAME)
+            (program.save)(image, arrangement, NEW_NAME, 0, 0x2000, 0x2000, sheet)
+                + (program.delete)(image, arrangement, NEW_NAME)
         }),
         Operation::Rename => summed(times, || {
-            (program.rename)(image, file, NEW_NAME) + (program.rename)(image, NEW_NAME, file)
+            (program.rename)(image, arrangement, file, NEW_NAME)
+                + (program.rename)(image, arrangement, NEW_NAME, file)
         }),
         Operation::Protect => summed(times, || {
-            (program.protect)(image, file, 1) + (program.protect)(image, file, 0)
+            (program.protect)(image, arrangement, file, 1)
+                + (program.protect)(image, arrangement, file, 0)
         }),
-        Operation::Blank => summed(times, || (program.blank)(image, DISC_NAME)),
-        Operation::ViewNumber => summed(times, || (program.view_number)(image, *last_track, 10)),
+        Operation::Blank => summed(times, || (program.blank)(image, arrangement, DISC_NAME)),
+        Operation::ViewNumber => summed(times, || {
+            (program.view_number)(image, arrangement, *last_track, 10)
+        }),
     }
 }
 

@@ -1,6 +1,11 @@
 //! The nine calls and the order of their refusals, as document 01 gives it.
 
+use crate::arrangement::Stated;
 use reference::command::Command;
+
+/// The refusal of a wrong length, and of a number that states neither
+/// arrangement.
+pub const SIZE: u32 = 1;
 
 #[derive(Debug, Clone, Copy, PartialEq, Eq, PartialOrd, Ord)]
 pub enum Call {
@@ -71,13 +76,25 @@ impl Call {
         }
     }
 
-    /// The pairs of refusals that can apply at once, the answer first.
-    pub fn pairs(self) -> Vec<(u32, u32)> {
+    /// What the call can answer where this is stated.
+    pub fn answers(self, stated: Stated) -> Vec<u32> {
+        match stated {
+            Stated::Neither => vec![SIZE],
+            _ => std::iter::once(0)
+                .chain(self.order().iter().copied())
+                .collect(),
+        }
+    }
+
+    /// The pairs of refusals that can apply at once where this is stated, the
+    /// answer first. Where neither arrangement is stated, it is 1.
+    pub fn pairs(self, stated: Stated) -> Vec<(u32, u32)> {
         let order = self.order();
         let after = |at: usize| order[at + 1..].iter().map(move |&later| (order[at], later));
         (0..order.len())
             .flat_map(after)
             .filter(|&(first, later)| self.can_all_apply(&[first, later]))
+            .filter(|&(first, _)| stated != Stated::Neither || first == SIZE)
             .collect()
     }
 
@@ -100,15 +117,25 @@ mod tests {
 
     #[test]
     fn pairs_follow_the_order() {
-        assert_eq!(Call::Check.pairs(), []);
-        assert_eq!(Call::View.pairs(), [(1, 11)]);
-        assert_eq!(Call::List.pairs(), [(1, 3), (1, 10), (3, 10)]);
-        let protect = [(1, 2), (1, 3), (1, 4), (2, 3), (3, 4)];
-        assert_eq!(Call::Protect.pairs(), protect);
-        assert!(Call::Rename.pairs().contains(&(6, 5)));
-        assert!(Call::Rename.pairs().contains(&(2, 5)));
-        assert!(!Call::Save.pairs().contains(&(2, 5)));
+        for stated in [Stated::Plain, Stated::Moved] {
+            assert_eq!(Call::Check.pairs(stated), []);
+            assert_eq!(Call::View.pairs(stated), [(1, 11)]);
+            assert_eq!(Call::List.pairs(stated), [(1, 3), (1, 10), (3, 10)]);
+            let protect = [(1, 2), (1, 3), (1, 4), (2, 3), (3, 4)];
+            assert_eq!(Call::Protect.pairs(stated), protect);
+            assert!(Call::Rename.pairs(stated).contains(&(6, 5)));
+            assert!(Call::Rename.pairs(stated).contains(&(2, 5)));
+            assert!(!Call::Save.pairs(stated).contains(&(2, 5)));
+        }
         assert!(!Call::Rename.can_all_apply(&[2, 4, 5]));
         assert!(!Call::Read.can_all_apply(&[1, 4, 9]));
+    }
+
+    #[test]
+    fn a_number_that_states_neither_is_answered_with_1() {
+        let stated = Stated::Neither;
+        assert_eq!(Call::List.answers(stated), [1]);
+        assert_eq!(Call::List.answers(Stated::Moved), [0, 1, 3, 10]);
+        assert_eq!(Call::Protect.pairs(stated), [(1, 2), (1, 3), (1, 4)]);
     }
 }

@@ -2,61 +2,82 @@
 
 use reference::command::{Answer, Command};
 
-/// The second program's answer in the form in which the library gives it.
-pub fn comparable(answer: Answer) -> Answer {
-    match answer {
-        Answer::Viewed(number, _) => Answer::Number(number),
-        other => other,
-    }
-}
-
-pub fn between_answers(library: &Answer, second: &Answer) -> Option<String> {
-    if library == second {
+/// The library's answer against the one that it should give.
+pub fn between_answers(found: &Answer, expected: &Answer) -> Option<String> {
+    if found == expected {
         return None;
     }
-    let (fields, buffer) = parts(library);
-    let (second_fields, second_buffer) = parts(second);
-    if fields != second_fields {
+    let (fields, buffer) = parts(found);
+    let (expected_fields, expected_buffer) = parts(expected);
+    if fields != expected_fields {
         return Some(format!(
-            "the library answers {fields}, the second program {second_fields}"
+            "the library answers {fields}, expected {expected_fields}"
         ));
     }
-    between_bytes("buffer", buffer, second_buffer)
+    let at = first_difference(buffer, expected_buffer)?;
+    Some(format!(
+        "byte {at} of the buffer: {}",
+        both(buffer[at], expected_buffer[at])
+    ))
 }
 
-/// An answer's numbers as text, and the lent buffer after the call.
+/// An answer's numbers as text, and the lent buffer or the view after the call.
 fn parts(answer: &Answer) -> (String, &[u8]) {
     match answer {
         Answer::Number(number) => (number.to_string(), &[]),
         Answer::Checked(checked) => (format!("{checked:?}"), &[]),
         Answer::Listed(listed, buffer) => (format!("{listed:?}"), buffer),
         Answer::Read(reading, buffer) => (format!("{reading:?}"), buffer),
-        Answer::Viewed(number, view) => (number.to_string(), view),
+        Answer::Viewed {
+            number,
+            start,
+            bytes,
+        } => {
+            let length = bytes.len();
+            (format!("{number}, start {start}, {length} bytes"), bytes)
+        }
     }
 }
 
-pub fn between_bytes(what: &str, library: &[u8], second: &[u8]) -> Option<String> {
-    if library == second {
-        return None;
-    }
-    let at = library
-        .iter()
-        .zip(second)
-        .position(|(one, other)| one != other)?;
-    let (sector, offset) = (at / 256, at % 256);
-    let (track, number) = (sector / 10, sector % 10 + 1);
-    let place = match what {
-        "image" => format!(" (byte {offset} of {track}/{number})"),
-        _ => String::new(),
-    };
-    let (found, expected) = (library[at], second[at]);
+/// The library's image against what it should be.
+pub fn between_images(found: &[u8], expected: &[u8], arrangement: u32) -> Option<String> {
+    let at = first_difference(found, expected)?;
+    let place = sector_around(expected, arrangement, at);
     Some(format!(
-        "byte {at} of the {what}{place}: library {found:02X}, second program {expected:02X}"
+        "byte {at} of the image{place}: {}",
+        both(found[at], expected[at])
     ))
 }
 
+fn first_difference(found: &[u8], expected: &[u8]) -> Option<usize> {
+    if found == expected {
+        return None;
+    }
+    let mut pairs = found.iter().zip(expected);
+    pairs.position(|(one, other)| one != other)
+}
+
+fn both(found: u8, expected: u8) -> String {
+    format!("library {found:02X}, expected {expected:02X}")
+}
+
+/// Which byte of which sector stands here; nothing where there is no telling.
+fn sector_around(image: &[u8], arrangement: u32, at: usize) -> String {
+    let (track, offset) = ((at / 2560) as u32, at % 256);
+    let view = (at - offset + 2) as u32;
+    (1..=10)
+        .find(|&sector| reference::view_start(image, arrangement, track, sector) == view)
+        .map_or_else(String::new, |sector| {
+            format!(" (byte {offset} of {track}/{sector})")
+        })
+}
+
 /// A call with its arguments, long ones shortened.
-pub fn describe(command: &Command) -> String {
+pub fn describe(command: &Command, arrangement: u32) -> String {
+    format!("{}, stated {arrangement}", without_arrangement(command))
+}
+
+fn without_arrangement(command: &Command) -> String {
     match command {
         Command::Check => "check".to_string(),
         Command::List { buffer } => format!("list, buffer of {} bytes", buffer.length),
@@ -99,17 +120,24 @@ fn typed(name: &[u8]) -> String {
 #[cfg(test)]
 mod tests {
     use super::*;
+    use crate::arrangement::{MOVED, PLAIN};
     use reference::Listed;
 
     #[test]
     fn the_first_differing_byte_is_named() {
         let image = [0; 5120];
-        assert_eq!(between_bytes("image", &image, &image), None);
+        assert_eq!(between_images(&image, &image, PLAIN), None);
         let mut other = image;
         other[2560 + 256 + 7] = 9;
-        let text = between_bytes("image", &other, &image).expect("a difference");
-        assert!(text.starts_with("byte 2823 of the image (byte 7 of 1/2)"));
-        assert!(text.ends_with("library 09, second program 00"));
+        for (arrangement, place) in [
+            (PLAIN, " (byte 7 of 1/2)"),
+            (MOVED, " (byte 7 of 1/4)"),
+            (2, ""),
+        ] {
+            let text = between_images(&other, &image, arrangement);
+            let expected = format!("byte 2823 of the image{place}: library 09, expected 00");
+            assert_eq!(text, Some(expected));
+        }
     }
 
     #[test]
@@ -125,6 +153,6 @@ mod tests {
         let command = Command::Delete {
             name: b"A\0'".to_vec(),
         };
-        assert_eq!(describe(&command), r"delete 'A\x00\''");
+        assert_eq!(describe(&command, 1), r"delete 'A\x00\'', stated 1");
     }
 }

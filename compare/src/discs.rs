@@ -1,5 +1,7 @@
-//! Starting images beside those of the second program's own generators.
+//! Starting images beside those of the second program's own generators. All
+//! are plain; who wants another arrangement gives them one.
 
+use crate::arrangement::PLAIN;
 use reference::generate::{capacity, damage, fresh_name, sound_disc_of, Random};
 
 const TRACK_BYTES: usize = 2560;
@@ -24,21 +26,26 @@ fn track_count(random: &mut Random, chances: usize) -> usize {
 
 pub fn sound(random: &mut Random) -> Vec<u8> {
     let tracks = track_count(random, 30);
-    sound_disc_of(random, tracks)
+    sound_disc_of(random, tracks, PLAIN)
 }
 
 /// Commands on these are mostly refused at once, so there are more large ones.
 pub fn damaged(random: &mut Random) -> Vec<u8> {
     let tracks = track_count(random, 6);
-    let mut image = sound_disc_of(random, tracks);
-    damage(random, &mut image);
+    let mut image = sound_disc_of(random, tracks, PLAIN);
+    damage(random, &mut image, PLAIN);
     image
 }
 
 pub fn blank(random: &mut Random, tracks: usize) -> Vec<u8> {
     let mut image = vec![random.byte(); tracks * TRACK_BYTES];
-    assert_eq!(reference::blank(&mut image, b"COMPARE"), 0);
+    assert_eq!(reference::blank(&mut image, PLAIN, b"COMPARE"), 0);
     image
+}
+
+/// A blank disc with as many tracks as there are.
+pub fn largest(random: &mut Random) -> Vec<u8> {
+    blank(random, MOST_TRACKS)
 }
 
 /// Files of any length on a disc with at most three free sectors left.
@@ -50,7 +57,7 @@ pub fn nearly_full(random: &mut Random) -> Vec<u8> {
         let most = (free_count(&image) - left).min(200);
         let length = capacity(random.between(1, most)) - random.below(200);
         let (name, sheet) = (fresh_name(random), random.bytes(length));
-        if reference::save(&mut image, &name, 0, 0, 0, &sheet) == NO_ROOM {
+        if reference::save(&mut image, PLAIN, &name, 0, 0, 0, &sheet) == NO_ROOM {
             break;
         }
     }
@@ -70,7 +77,7 @@ pub fn small_files(random: &mut Random) -> Vec<u8> {
     for number in 0..wanted {
         let name = format!("F{number}");
         let sheet = vec![random.byte(); random.pick(&[1, 200, 245])];
-        reference::save(&mut image, name.as_bytes(), 0, 0, 0, &sheet);
+        reference::save(&mut image, PLAIN, name.as_bytes(), 0, 0, 0, &sheet);
     }
     image
 }
@@ -118,6 +125,7 @@ pub fn any_bytes(random: &mut Random) -> Vec<u8> {
     image
 }
 
+/// Of an image in either arrangement, since 0/1 comes first in both.
 pub fn free_count(image: &[u8]) -> usize {
     usize::from(u16::from_le_bytes([
         image[FREE_COUNT],
@@ -130,7 +138,7 @@ mod tests {
     use super::*;
 
     fn is_sound(image: &[u8]) -> bool {
-        let checked = reference::check(image);
+        let checked = reference::check(image, PLAIN);
         (checked.number, checked.rule) == (0, 0)
     }
 

@@ -31,16 +31,18 @@ struct CReading {
 }
 
 extern "C" {
-    fn tandos_check(image: *const u8, image_len: usize) -> CChecked;
+    fn tandos_check(image: *const u8, image_len: usize, arrangement: u32) -> CChecked;
     fn tandos_list(
         image: *const u8,
         image_len: usize,
+        arrangement: u32,
         buffer: *mut u8,
         buffer_len: usize,
     ) -> CListed;
     fn tandos_read(
         image: *const u8,
         image_len: usize,
+        arrangement: u32,
         name: *const u8,
         name_len: usize,
         buffer: *mut u8,
@@ -49,6 +51,7 @@ extern "C" {
     fn tandos_save(
         image: *mut u8,
         image_len: usize,
+        arrangement: u32,
         name: *const u8,
         name_len: usize,
         page: u32,
@@ -57,10 +60,17 @@ extern "C" {
         sheet: *const u8,
         sheet_len: usize,
     ) -> u32;
-    fn tandos_delete(image: *mut u8, image_len: usize, name: *const u8, name_len: usize) -> u32;
+    fn tandos_delete(
+        image: *mut u8,
+        image_len: usize,
+        arrangement: u32,
+        name: *const u8,
+        name_len: usize,
+    ) -> u32;
     fn tandos_rename(
         image: *mut u8,
         image_len: usize,
+        arrangement: u32,
         old_name: *const u8,
         old_len: usize,
         new_name: *const u8,
@@ -69,36 +79,57 @@ extern "C" {
     fn tandos_protect(
         image: *mut u8,
         image_len: usize,
+        arrangement: u32,
         name: *const u8,
         name_len: usize,
         on: u32,
     ) -> u32;
-    fn tandos_blank(image: *mut u8, image_len: usize, name: *const u8, name_len: usize) -> u32;
-    fn tandos_view_number(image: *const u8, image_len: usize, track: u32, sector: u32) -> u32;
+    fn tandos_blank(
+        image: *mut u8,
+        image_len: usize,
+        arrangement: u32,
+        name: *const u8,
+        name_len: usize,
+    ) -> u32;
+    fn tandos_view_number(
+        image: *const u8,
+        image_len: usize,
+        arrangement: u32,
+        track: u32,
+        sector: u32,
+    ) -> u32;
+    fn tandos_view_start(
+        image: *const u8,
+        image_len: usize,
+        arrangement: u32,
+        track: u32,
+        sector: u32,
+    ) -> u32;
 }
 
-pub fn check(image: &[u8]) -> Checked {
-    let answer = unsafe { tandos_check(image.as_ptr(), image.len()) };
+pub fn check(image: &[u8], arrangement: u32) -> Checked {
+    let answer = unsafe { tandos_check(image.as_ptr(), image.len(), arrangement) };
     Checked {
         number: answer.number,
         rule: answer.rule,
     }
 }
 
-pub fn list(image: &[u8], buffer: &mut [u8]) -> Listed {
+pub fn list(image: &[u8], arrangement: u32, buffer: &mut [u8]) -> Listed {
     let (lent, lent_len) = (buffer.as_mut_ptr(), buffer.len());
-    let answer = unsafe { tandos_list(image.as_ptr(), image.len(), lent, lent_len) };
+    let answer = unsafe { tandos_list(image.as_ptr(), image.len(), arrangement, lent, lent_len) };
     Listed {
         number: answer.number,
         length: answer.length,
     }
 }
 
-pub fn read(image: &[u8], name: &[u8], buffer: &mut [u8]) -> Reading {
+pub fn read(image: &[u8], arrangement: u32, name: &[u8], buffer: &mut [u8]) -> Reading {
     let answer = unsafe {
         tandos_read(
             image.as_ptr(),
             image.len(),
+            arrangement,
             name.as_ptr(),
             name.len(),
             buffer.as_mut_ptr(),
@@ -117,6 +148,7 @@ pub fn read(image: &[u8], name: &[u8], buffer: &mut [u8]) -> Reading {
 
 pub fn save(
     image: &mut [u8],
+    arrangement: u32,
     name: &[u8],
     page: u32,
     start: u16,
@@ -127,6 +159,7 @@ pub fn save(
         tandos_save(
             image.as_mut_ptr(),
             image.len(),
+            arrangement,
             name.as_ptr(),
             name.len(),
             page,
@@ -138,15 +171,24 @@ pub fn save(
     }
 }
 
-pub fn delete(image: &mut [u8], name: &[u8]) -> u32 {
-    unsafe { tandos_delete(image.as_mut_ptr(), image.len(), name.as_ptr(), name.len()) }
+pub fn delete(image: &mut [u8], arrangement: u32, name: &[u8]) -> u32 {
+    unsafe {
+        tandos_delete(
+            image.as_mut_ptr(),
+            image.len(),
+            arrangement,
+            name.as_ptr(),
+            name.len(),
+        )
+    }
 }
 
-pub fn rename(image: &mut [u8], old: &[u8], new: &[u8]) -> u32 {
+pub fn rename(image: &mut [u8], arrangement: u32, old: &[u8], new: &[u8]) -> u32 {
     unsafe {
         tandos_rename(
             image.as_mut_ptr(),
             image.len(),
+            arrangement,
             old.as_ptr(),
             old.len(),
             new.as_ptr(),
@@ -155,11 +197,12 @@ pub fn rename(image: &mut [u8], old: &[u8], new: &[u8]) -> u32 {
     }
 }
 
-pub fn protect(image: &mut [u8], name: &[u8], on: u32) -> u32 {
+pub fn protect(image: &mut [u8], arrangement: u32, name: &[u8], on: u32) -> u32 {
     unsafe {
         tandos_protect(
             image.as_mut_ptr(),
             image.len(),
+            arrangement,
             name.as_ptr(),
             name.len(),
             on,
@@ -167,10 +210,22 @@ pub fn protect(image: &mut [u8], name: &[u8], on: u32) -> u32 {
     }
 }
 
-pub fn blank(image: &mut [u8], name: &[u8]) -> u32 {
-    unsafe { tandos_blank(image.as_mut_ptr(), image.len(), name.as_ptr(), name.len()) }
+pub fn blank(image: &mut [u8], arrangement: u32, name: &[u8]) -> u32 {
+    unsafe {
+        tandos_blank(
+            image.as_mut_ptr(),
+            image.len(),
+            arrangement,
+            name.as_ptr(),
+            name.len(),
+        )
+    }
 }
 
-pub fn view_number(image: &[u8], track: u32, sector: u32) -> u32 {
-    unsafe { tandos_view_number(image.as_ptr(), image.len(), track, sector) }
+pub fn view_number(image: &[u8], arrangement: u32, track: u32, sector: u32) -> u32 {
+    unsafe { tandos_view_number(image.as_ptr(), image.len(), arrangement, track, sector) }
+}
+
+pub fn view_start(image: &[u8], arrangement: u32, track: u32, sector: u32) -> u32 {
+    unsafe { tandos_view_start(image.as_ptr(), image.len(), arrangement, track, sector) }
 }

@@ -3,6 +3,7 @@
 
 #![deny(unsafe_code)]
 
+mod arrangement;
 mod calls;
 pub mod count;
 mod difference;
@@ -15,3 +16,5 @@ pub mod options;
 mod pair;
 pub mod run;
 mod several;
+mod tally;
+mod twin;

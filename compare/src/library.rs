@@ -9,6 +9,8 @@ use reference::history::Program;
 use reference::Reading;
 use std::cell::RefCell;
 
+const VIEW_BYTES: usize = 254;
+
 /// The library for the claims of the history. What it may write in is lent
 /// between guard bytes here too.
 #[derive(Debug, Default)]
@@ -35,13 +37,16 @@ impl Library {
 }
 
 impl Program for Library {
-    fn read(&self, image: &[u8], name: &[u8], buffer: &mut [u8]) -> Reading {
-        self.guarded("buffer", buffer, |lent| ffi::read(image, name, lent))
+    fn read(&self, image: &[u8], arrangement: u32, name: &[u8], buffer: &mut [u8]) -> Reading {
+        self.guarded("buffer", buffer, |lent| {
+            ffi::read(image, arrangement, name, lent)
+        })
     }
 
     fn save(
         &self,
         image: &mut [u8],
+        arrangement: u32,
         name: &[u8],
         page: u32,
         start: u16,
@@ -49,7 +54,7 @@ impl Program for Library {
         sheet: &[u8],
     ) -> u32 {
         self.guarded("image", image, |lent| {
-            ffi::save(lent, name, page, start, transfer, sheet)
+            ffi::save(lent, arrangement, name, page, start, transfer, sheet)
         })
     }
 }
@@ -60,14 +65,14 @@ pub struct Outcome {
     pub stray_write: Option<String>,
 }
 
-pub fn run(random: &mut Random, command: &Command, image: &mut Lent) -> Outcome {
+pub fn run(random: &mut Random, command: &Command, arrangement: u32, image: &mut Lent) -> Outcome {
     let texts = texts(command);
     let mut lent = Arguments {
         first: Lent::new(random, texts.0),
         second: Lent::new(random, texts.1),
         buffer: Lent::new(random, &buffer(command)),
     };
-    let answer = call(command, image.bytes_mut(), &mut lent);
+    let answer = call(command, image.bytes_mut(), arrangement, &mut lent);
     let stray_write = beside("buffer", &lent.buffer)
         .or_else(|| in_or_beside("name", &lent.first, texts.0))
         .or_else(|| in_or_beside("sheet or new name", &lent.second, texts.1));
@@ -104,25 +109,51 @@ fn buffer(command: &Command) -> Vec<u8> {
     }
 }
 
-/// A view exists in the library's own language alone; its number is compared.
-fn call(command: &Command, image: &mut [u8], lent: &mut Arguments) -> Answer {
+fn call(command: &Command, image: &mut [u8], arrangement: u32, lent: &mut Arguments) -> Answer {
     let (first, second) = (lent.first.bytes(), lent.second.bytes());
     let buffer = lent.buffer.bytes_mut();
     match command {
-        Command::Check => Answer::Checked(ffi::check(image)),
-        Command::List { .. } => Answer::Listed(ffi::list(image, buffer), buffer.to_vec()),
-        Command::Read { .. } => Answer::Read(ffi::read(image, first, buffer), buffer.to_vec()),
+        Command::Check => Answer::Checked(ffi::check(image, arrangement)),
+        Command::List { .. } => {
+            Answer::Listed(ffi::list(image, arrangement, buffer), buffer.to_vec())
+        }
+        Command::Read { .. } => Answer::Read(
+            ffi::read(image, arrangement, first, buffer),
+            buffer.to_vec(),
+        ),
         Command::Save {
             page,
             start,
             transfer,
             ..
-        } => Answer::Number(ffi::save(image, first, *page, *start, *transfer, second)),
-        Command::Delete { .. } => Answer::Number(ffi::delete(image, first)),
-        Command::Rename { .. } => Answer::Number(ffi::rename(image, first, second)),
-        Command::Protect { on, .. } => Answer::Number(ffi::protect(image, first, *on)),
-        Command::Blank { .. } => Answer::Number(ffi::blank(image, first)),
-        Command::View { track, sector } => Answer::Number(ffi::view_number(image, *track, *sector)),
+        } => Answer::Number(ffi::save(
+            image,
+            arrangement,
+            first,
+            *page,
+            *start,
+            *transfer,
+            second,
+        )),
+        Command::Delete { .. } => Answer::Number(ffi::delete(image, arrangement, first)),
+        Command::Rename { .. } => Answer::Number(ffi::rename(image, arrangement, first, second)),
+        Command::Protect { on, .. } => Answer::Number(ffi::protect(image, arrangement, first, *on)),
+        Command::Blank { .. } => Answer::Number(ffi::blank(image, arrangement, first)),
+        Command::View { track, sector } => viewed(image, arrangement, *track, *sector),
+    }
+}
+
+/// The part of the image itself exists in the library's own language alone;
+/// here it is what lies at the start that the library gives.
+fn viewed(image: &[u8], arrangement: u32, track: u32, sector: u32) -> Answer {
+    let number = ffi::view_number(image, arrangement, track, sector);
+    let start = ffi::view_start(image, arrangement, track, sector);
+    let at = start as usize;
+    let shown = image.get(at..at + VIEW_BYTES).filter(|_| number == 0);
+    Answer::Viewed {
+        number,
+        start,
+        bytes: shown.unwrap_or(&[]).to_vec(),
     }
 }
 

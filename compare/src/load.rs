@@ -1,12 +1,13 @@
-//! Many commands on one image: what shows only after a long history, such as a
-//! free chain that has passed every sector in many orders.
+//! Many commands on one image of each arrangement: what shows only after a long
+//! history, such as a free chain that has passed every sector in many orders.
 
+use crate::arrangement::{arranged, Stated, MOVED, PLAIN};
 use crate::calls::Call;
-use crate::count::Counts;
 use crate::difference::describe;
 use crate::discs;
 use crate::pair::Pair;
 use crate::run::{small_file_command, Draw};
+use crate::tally::Tally;
 use reference::command::Command;
 use reference::generate::{command, fresh_name, standing_names, Random};
 use std::fmt;
@@ -26,70 +27,95 @@ const BLANKS_LEFT_OUT: usize = 60;
 pub struct Load {
     seed: u64,
     random: Random,
-    pair: Pair,
-    counts: Counts,
-    most_files: usize,
-    most_directory: usize,
-    full_moments: u64,
+    /// The plain one and the moved one, which take turns.
+    images: [Image; 2],
+    commands: u64,
 }
 
 impl Load {
     pub fn new(seed: u64) -> Load {
         let mut random = Random::new(seed);
-        let image = discs::blank(&mut random, TRACKS);
-        let pair = Pair::new(&mut random, image);
+        let images = [PLAIN, MOVED].map(|arrangement| Image::new(&mut random, arrangement));
         Load {
             seed,
             random,
-            pair,
-            counts: Counts::default(),
+            images,
+            commands: 0,
+        }
+    }
+
+    pub fn commands(&self) -> u64 {
+        self.commands
+    }
+
+    /// Ends with the first failure, since the images differ from there.
+    pub fn run(&mut self, commands: u64) -> Result<(), String> {
+        for number in 0..commands {
+            self.commands += 1;
+            let image = &mut self.images[(number % 2) as usize];
+            image.step(&mut self.random).map_err(|text| {
+                let seed = self.seed;
+                format!("FAILED: seed {seed}, command {number}: {text}")
+            })?;
+        }
+        Ok(())
+    }
+}
+
+/// One image and its long history.
+struct Image {
+    pair: Pair,
+    tally: Tally,
+    commands: u64,
+    most_files: usize,
+    most_directory: usize,
+    full_moments: u64,
+}
+
+impl Image {
+    fn new(random: &mut Random, arrangement: u32) -> Image {
+        let image = arranged(discs::blank(random, TRACKS), arrangement);
+        Image {
+            pair: Pair::new(random, image, arrangement),
+            tally: Tally::default(),
+            commands: 0,
             most_files: 0,
             most_directory: 0,
             full_moments: 0,
         }
     }
 
-    pub fn commands(&self) -> u64 {
-        self.counts.calls()
+    fn step(&mut self, random: &mut Random) -> Result<(), String> {
+        let command = self.draw(random);
+        self.commands += 1;
+        self.run(random, &command).map_err(|text| {
+            let call = describe(&command, self.pair.arrangement());
+            format!("{call}\n  {text}")
+        })
     }
 
-    /// Ends with the first failure, since the images differ from there.
-    pub fn run(&mut self, commands: u64) -> Result<(), String> {
-        for number in 0..commands {
-            let command = self.draw(number);
-            if let Err(text) = self.step(number, &command) {
-                self.counts.failed += 1;
-                let (seed, call) = (self.seed, describe(&command));
-                return Err(format!(
-                    "FAILED: seed {seed}, command {number}: {call}\n  {text}"
-                ));
-            }
-            self.counts.passed += 1;
-        }
-        Ok(())
-    }
-
-    fn draw(&mut self, number: u64) -> Command {
-        let draw: Draw = match number / PHASE % 3 {
+    fn draw(&self, random: &mut Random) -> Command {
+        let draw: Draw = match self.commands / PHASE % 3 {
             0 => command,
             1 => small_file_command,
             _ => clearing_command,
         };
         loop {
-            let drawn = draw(&mut self.random, self.pair.image());
+            let drawn = draw(random, self.pair.image(), self.pair.arrangement());
             let is_blank = matches!(drawn, Command::Blank { .. });
-            if !is_blank || self.random.one_in(BLANKS_LEFT_OUT) {
+            if !is_blank || random.one_in(BLANKS_LEFT_OUT) {
                 return drawn;
             }
         }
     }
 
-    fn step(&mut self, number: u64, command: &Command) -> Result<(), String> {
-        let answer = self.pair.step(&mut self.random, command)?;
-        self.counts.answer(Call::of(command), answer.number());
+    fn run(&mut self, random: &mut Random, command: &Command) -> Result<(), String> {
+        let answer = self.pair.step(random, command)?;
+        self.tally
+            .call(Call::of(command), &answer, self.pair.image());
         self.observe();
-        let fault = if number % WHOLE_MOMENT_EVERY == WHOLE_MOMENT_EVERY - 1 {
-            self.counts.moments += 1;
+        let fault = if self.commands % WHOLE_MOMENT_EVERY == 0 {
+            self.tally.moments += 1;
             self.pair.moment_fault()
         } else {
             self.pair.places_fault()
@@ -106,8 +132,8 @@ impl Load {
 }
 
 /// Mostly lifts the protection of a standing file or deletes it.
-fn clearing_command(random: &mut Random, image: &[u8]) -> Command {
-    let standing = standing_names(image);
+fn clearing_command(random: &mut Random, image: &[u8], arrangement: u32) -> Command {
+    let standing = standing_names(image, arrangement);
     let name = match standing.len() {
         0 => fresh_name(random),
         count => standing[random.below(count)].clone(),
@@ -115,23 +141,33 @@ fn clearing_command(random: &mut Random, image: &[u8]) -> Command {
     match random.below(4) {
         0 => Command::Protect { name, on: 0 },
         1 | 2 => Command::Delete { name },
-        _ => command(random, image),
+        _ => command(random, image, arrangement),
     }
 }
 
 impl fmt::Display for Load {
     fn fmt(&self, out: &mut fmt::Formatter<'_>) -> fmt::Result {
-        self.counts.write_answers(out)?;
+        let [plain, moved] = &self.images;
+        writeln!(out, "{plain}")?;
+        write!(out, "{moved}")
+    }
+}
+
+impl fmt::Display for Image {
+    fn fmt(&self, out: &mut fmt::Formatter<'_>) -> fmt::Result {
+        self.tally.write_answers(out)?;
         writeln!(
             out,
-            "one image of {TRACKS} tracks: at most {} files and {} directory sectors",
-            self.most_files, self.most_directory
+            "one {} image of {TRACKS} tracks: at most {} files and {} directory sectors",
+            Stated::by(self.pair.arrangement()).name(),
+            self.most_files,
+            self.most_directory
         )?;
         writeln!(out, "moments without a free sector: {}", self.full_moments)?;
         write!(
             out,
             "moments with each file read: {}; with the places of all sectors: all",
-            self.counts.moments
+            self.tally.moments
         )
     }
 }

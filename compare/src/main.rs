@@ -46,7 +46,7 @@ fn compare(options: Options) -> ExitCode {
         }
     };
     println!("calls {}", driver.counts.calls());
-    println!("{}", driver.counts);
+    print!("{}", driver.counts);
     for name in &missing {
         println!("FAILED: never occurred: {name}");
     }

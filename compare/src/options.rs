@@ -11,7 +11,7 @@ pub struct Options {
     pub calls: u64,
     /// Only this run, with each of its commands printed.
     pub run: Option<u64>,
-    /// So many commands on one image, in place of the comparison's runs.
+    /// So many commands on two images, in place of the comparison's runs.
     pub load: Option<u64>,
 }
 

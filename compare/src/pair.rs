@@ -1,6 +1,6 @@
 //! One image handed to both programs, and the history of its run.
 
-use crate::difference::{between_answers, between_bytes, comparable};
+use crate::difference::{between_answers, between_images};
 use crate::lend::Lent;
 use crate::library::{self, beside, Library};
 use reference::command::{Answer, Command};
@@ -10,17 +10,21 @@ use reference::history::{moment_fault, places_fault, Book};
 pub struct Pair {
     library: Lent,
     second: Vec<u8>,
+    /// What every call of the run states.
+    arrangement: u32,
     /// None as long as no moment of the run was a start: the first image is
-    /// not sound, and no blank disc was made since.
+    /// not sound, and no blank disc was made since; or the run states neither
+    /// arrangement.
     book: Option<Book>,
 }
 
 impl Pair {
-    pub fn new(random: &mut Random, image: Vec<u8>) -> Pair {
+    pub fn new(random: &mut Random, image: Vec<u8>, arrangement: u32) -> Pair {
         Pair {
             library: Lent::new(random, &image),
-            book: Book::start(&image),
+            book: Book::start(&image, arrangement),
             second: image,
+            arrangement,
         }
     }
 
@@ -29,10 +33,14 @@ impl Pair {
         &self.second
     }
 
+    pub fn arrangement(&self) -> u32 {
+        self.arrangement
+    }
+
     /// Runs a command on both programs and gives the answer, or what differs.
     pub fn step(&mut self, random: &mut Random, command: &Command) -> Result<Answer, String> {
-        let expected = comparable(command.run(&mut self.second));
-        let outcome = library::run(random, command, &mut self.library);
+        let expected = command.run(&mut self.second, self.arrangement);
+        let outcome = library::run(random, command, self.arrangement, &mut self.library);
         let difference = outcome
             .stray_write
             .or_else(|| between_answers(&outcome.answer, &expected))
@@ -48,7 +56,7 @@ impl Pair {
         match &mut self.book {
             Some(book) => book.record(command, accepted),
             None if accepted && matches!(command, Command::Blank { .. }) => {
-                self.book = Book::start(self.library.bytes());
+                self.book = Book::start(self.library.bytes(), self.arrangement);
             }
             None => {}
         }
@@ -84,6 +92,6 @@ impl Pair {
 
     fn image_difference(&self) -> Option<String> {
         beside("image", &self.library)
-            .or_else(|| between_bytes("image", self.library.bytes(), &self.second))
+            .or_else(|| between_images(self.library.bytes(), &self.second, self.arrangement))
     }
 }

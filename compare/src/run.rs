@@ -1,25 +1,45 @@
 //! Runs: an image and a list of commands, each run from its own seed.
 
-use crate::calls::Call;
+use crate::arrangement::{arranged, Stated};
+use crate::calls::{Call, SIZE};
 use crate::count::Counts;
 use crate::difference::describe;
 use crate::discs;
 use crate::pair::Pair;
 use crate::several::Case;
-use reference::command::{Answer, Command};
+use crate::twin::Twin;
+use reference::command::{Buffer, Command};
 use reference::generate::{command, fresh_name, Random};
 
 const MOST_REPORTS: u64 = 10;
 const CASES_IN_A_RUN: usize = 16;
+/// One run in so many states neither arrangement throughout.
+const NEITHER_IN: usize = 12;
+/// One command of a run in so many is called with another number first.
+const ASIDE_IN: usize = 10;
+/// One call in so many is made on the other arrangement too.
+const TWIN_IN: usize = 3;
 
-/// How the commands of a run are drawn, with the image before them in view.
-pub type Draw = fn(&mut Random, &[u8]) -> Command;
+/// How the commands of a run are drawn, with the image before them and its
+/// arrangement in view.
+pub type Draw = fn(&mut Random, &[u8], u32) -> Command;
 
 pub struct Driver {
     seed: u64,
     /// Prints each command before it is run.
     verbose: bool,
     pub counts: Counts,
+}
+
+/// A list of commands yet to be drawn.
+struct Run {
+    number: u64,
+    length: usize,
+    image: Vec<u8>,
+    /// Of the image; the calls of the run need not state it.
+    arrangement: u32,
+    stated: Stated,
+    draw: Draw,
 }
 
 /// Where a command stands, to find it again.
@@ -55,25 +75,54 @@ impl Driver {
             5..=6 => (discs::nearly_full(random), command, 40),
             7..=8 => (discs::small_files(random), small_file_command, 40),
             9 => (discs::wide_directory(random), command, 20),
-            10..=23 => (discs::damaged(random), command, 6),
+            10 => (discs::largest(random), largest_disc_command, 30),
+            11..=23 => (discs::damaged(random), command, 6),
             24..=26 => (discs::any_bytes(random), command, 6),
             _ => return self.cases(random, number),
         };
-        let length = random.between(2, most);
-        self.list(random, image, draw, (number, length));
+        let stated = Stated::draw(random, NEITHER_IN);
+        let arrangement = stated.of_image(random);
+        let run = Run {
+            number,
+            length: random.between(2, most),
+            image: arranged(image, arrangement),
+            arrangement,
+            stated,
+            draw,
+        };
+        self.list(random, run);
     }
 
     /// A check, whose moment is that of the start, then drawn commands. The
     /// run ends with the first difference, since the images differ from there.
-    fn list(&mut self, random: &mut Random, image: Vec<u8>, draw: Draw, run: (u64, usize)) {
-        let (run, length) = run;
-        let mut pair = Pair::new(random, image);
+    fn list(&mut self, random: &mut Random, run: Run) {
+        let stated = run.stated.number(random);
+        let mut pair = Pair::new(random, run.image, stated);
         let mut next = Command::Check;
-        for command in 0..length {
-            if !self.step(random, &mut pair, &next, None, Place { run, command }) {
+        for command in 0..run.length {
+            let place = Place {
+                run: run.number,
+                command,
+            };
+            if random.one_in(ASIDE_IN) {
+                self.aside(random, &pair, &next, place);
+            }
+            if !self.step(random, &mut pair, &next, None, place) {
                 break;
             }
-            next = draw(random, pair.image());
+            next = (run.draw)(random, pair.image(), run.arrangement);
+        }
+    }
+
+    /// The command called with another number than the run's, on a copy: such
+    /// a call is none of the run, whose history goes on without it.
+    fn aside(&mut self, random: &mut Random, pair: &Pair, command: &Command, place: Place) {
+        let of_run = Stated::by(pair.arrangement());
+        let stated = of_run.another(random);
+        let number = stated.number(random);
+        let mut copy = Pair::new(random, pair.image().to_vec(), number);
+        if self.step(random, &mut copy, command, None, place) {
+            self.counts.of(of_run).aside(stated);
         }
     }
 
@@ -82,10 +131,11 @@ impl Driver {
         for command in 0..CASES_IN_A_RUN {
             let case = Case::draw(random);
             let expected = case.expected_number();
-            let mut pair = Pair::new(random, case.image);
+            let mut pair = Pair::new(random, case.image, case.arrangement);
             let place = Place { run, command };
             if self.step(random, &mut pair, &case.command, Some(expected), place) {
                 self.counts
+                    .of(Stated::by(case.arrangement))
                     .refusals(Call::of(&case.command), &case.refusals);
             }
         }
@@ -100,8 +150,9 @@ impl Driver {
         expected: Option<u32>,
         place: Place,
     ) -> bool {
+        let call = describe(command, pair.arrangement());
         if self.verbose {
-            println!("command {}: {}", place.command, describe(command));
+            println!("command {}: {call}", place.command);
         }
         match self.compare(random, pair, command, expected) {
             Ok(()) => {
@@ -110,7 +161,7 @@ impl Driver {
             }
             Err(text) => {
                 self.counts.failed += 1;
-                self.report(command, &text, place);
+                self.report(&call, &text, place);
                 false
             }
         }
@@ -123,31 +174,34 @@ impl Driver {
         command: &Command,
         expected: Option<u32>,
     ) -> Result<(), String> {
+        let twin = some_twin(random, pair);
         let answer = pair.step(random, command)?;
-        let number = answer.number();
-        self.counts.size(pair.image());
-        self.counts.answer(Call::of(command), number);
-        if let Answer::Checked(checked) = answer {
-            if number == 0 {
-                self.counts.rule(checked.rule);
-            }
-        }
-        match expected {
+        let (call, number) = (Call::of(command), answer.number());
+        let stated = Stated::by(pair.arrangement());
+        let tally = self.counts.of(stated);
+        tally.call(call, &answer, pair.image());
+        match first_to_apply(stated, expected) {
             Some(first) if first != number => {
                 return Err(format!("both answer {number}, but {first} applies first"));
             }
             _ => {}
         }
-        self.counts.moments += u64::from(pair.has_history());
+        if let Some(twin) = twin {
+            tally.twin(call, number);
+            if let Some(text) = twin.fault(random, command, answer, pair.image()) {
+                return Err(text);
+            }
+        }
+        tally.moments += u64::from(pair.has_history());
         pair.moment_fault().map_or(Ok(()), Err)
     }
 
-    fn report(&self, command: &Command, text: &str, place: Place) {
+    fn report(&self, call: &str, text: &str, place: Place) {
         let Place { run, command: at } = place;
         match self.counts.failed {
             reports if reports <= MOST_REPORTS => {
                 println!("FAILED: seed {}, run {run}, command {at}", self.seed);
-                println!("  {}", describe(command));
+                println!("  {call}");
                 println!("  {text}");
             }
             reports if reports == MOST_REPORTS + 1 => println!("further failures are only counted"),
@@ -156,15 +210,32 @@ impl Driver {
     }
 }
 
+/// The answer where it is known without either program.
+fn first_to_apply(stated: Stated, expected: Option<u32>) -> Option<u32> {
+    match stated {
+        Stated::Neither => Some(SIZE),
+        _ => expected,
+    }
+}
+
+/// The disc before a call, for a sample of the calls.
+fn some_twin(random: &mut Random, pair: &Pair) -> Option<Twin> {
+    if random.one_in(TWIN_IN) {
+        Twin::new(random, pair.image(), pair.arrangement())
+    } else {
+        None
+    }
+}
+
 /// Mostly saves and deletes of small files, so that the number of files often
 /// passes a multiple of fifteen, up and down.
-pub fn small_file_command(random: &mut Random, image: &[u8]) -> Command {
+pub fn small_file_command(random: &mut Random, image: &[u8], arrangement: u32) -> Command {
     let name = match random.below(3) {
         0 => format!("F{}", random.below(30)).into_bytes(),
         _ => fresh_name(random),
     };
     match random.below(8) {
-        0 | 1 => command(random, image),
+        0 | 1 => command(random, image, arrangement),
         2..=4 => Command::Delete { name },
         _ => Command::Save {
             name,
@@ -173,5 +244,28 @@ pub fn small_file_command(random: &mut Random, image: &[u8]) -> Command {
             transfer: 0x4000,
             sheet: vec![random.byte(); random.pick(&[1, 200, 245, 246])],
         },
+    }
+}
+
+/// Often of modules as long as there are any, or a blank disc.
+fn largest_disc_command(random: &mut Random, image: &[u8], arrangement: u32) -> Command {
+    const LONGEST: usize = 65_536;
+    let name = vec![random.pick(b"ABCD")];
+    let buffer = Buffer {
+        length: LONGEST,
+        fill: random.byte(),
+    };
+    match random.below(16) {
+        0 => Command::Blank { name },
+        1..=3 => Command::Save {
+            name,
+            page: random.below(8) as u32,
+            start: 0,
+            transfer: random.draw() as u16,
+            sheet: random.bytes(LONGEST),
+        },
+        4..=6 => Command::Read { name, buffer },
+        7 => Command::List { buffer },
+        _ => command(random, image, arrangement),
     }
 }

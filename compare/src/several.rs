@@ -1,18 +1,25 @@
 //! Commands to which several refusals apply at once.
 //!
-//! Each refusal is asked for or not by chance, and the image and arguments are
-//! made for those asked for. So the answer is known without either program:
-//! the first of them in the call's order.
+//! Each refusal is asked for or not by chance, and the image, the number stated
+//! and the arguments are made for those asked for. So the answer is known
+//! without either program: the first of them in the call's order.
 
+use crate::arrangement::{arranged, Stated, PLAIN};
 use crate::calls::Call;
 use crate::discs::{blank, free_count};
 use reference::command::{Buffer, Command};
 use reference::generate::{break_rule, capacity, fresh_name, illegal_name, Random};
 
-/// A command, the image it is run on, and the refusals that apply to it, in
-/// the call's order.
+/// One case in so many states neither arrangement.
+const NEITHER_IN: usize = 5;
+/// One of those in so many is of a wrong length as well.
+const WRONG_LENGTH_TOO_IN: usize = 4;
+
+/// A command, the image it is run on, the number it states, and the refusals
+/// that apply to it, in the call's order.
 pub struct Case {
     pub image: Vec<u8>,
+    pub arrangement: u32,
     pub command: Command,
     pub refusals: Vec<u32>,
 }
@@ -20,12 +27,20 @@ pub struct Case {
 impl Case {
     pub fn draw(random: &mut Random) -> Case {
         let call = random.pick(&Call::ALL);
-        let refusals = some_refusals(random, call);
+        let stated = Stated::draw(random, NEITHER_IN);
+        let refusals = some_refusals(random, call, stated);
         let has = |number: u32| refusals.contains(&number);
         let disc = Disc::new(random, &has);
+        let command = disc.command(random, call, &has);
+        let mut image = arranged(disc.image, stated.of_image(random));
+        if has(1) && (stated != Stated::Neither || random.one_in(WRONG_LENGTH_TOO_IN)) {
+            let wrong = random.pick(&[image.len() - 1, image.len() + 1, image.len() + 256]);
+            image.resize(wrong, 0);
+        }
         Case {
-            command: disc.command(random, call, &has),
-            image: disc.image,
+            image,
+            arrangement: stated.number(random),
+            command,
             refusals,
         }
     }
@@ -36,8 +51,8 @@ impl Case {
 }
 
 /// Mostly a pair, each as likely as any other, and sometimes a third.
-fn some_refusals(random: &mut Random, call: Call) -> Vec<u32> {
-    let pairs = call.pairs();
+fn some_refusals(random: &mut Random, call: Call, stated: Stated) -> Vec<u32> {
+    let pairs = call.pairs(stated);
     let mut asked = match random.below(8) {
         0 => Vec::new(),
         _ if pairs.is_empty() => call.order().to_vec(),
@@ -52,11 +67,14 @@ fn some_refusals(random: &mut Random, call: Call) -> Vec<u32> {
             asked.pop();
         }
     }
+    if stated == Stated::Neither {
+        asked.push(1);
+    }
     let in_order = call.order().iter().copied();
     in_order.filter(|number| asked.contains(number)).collect()
 }
 
-/// A disc with one file of each kind that a refusal speaks of.
+/// A plain disc with one file of each kind that a refusal speaks of.
 struct Disc {
     image: Vec<u8>,
     plain: Vec<u8>,
@@ -86,12 +104,7 @@ impl Disc {
         }
         if has(3) {
             // The used count alone: all that other refusals look at stays.
-            break_rule(random, &mut disc.image, 7);
-        }
-        if has(1) {
-            let length = disc.image.len();
-            let wrong = random.pick(&[length - 1, length + 1, length + 256]);
-            disc.image.resize(wrong, 0);
+            break_rule(random, &mut disc.image, PLAIN, 7);
         }
         disc
     }
@@ -104,9 +117,9 @@ impl Disc {
             (&self.not_plain, 200),
         ] {
             let sheet = random.bytes(length);
-            assert_eq!(reference::save(image, name, 0, 0, 0, &sheet), 0);
+            assert_eq!(reference::save(image, PLAIN, name, 0, 0, 0, &sheet), 0);
         }
-        assert_eq!(reference::protect(image, &self.protected, 1), 0);
+        assert_eq!(reference::protect(image, PLAIN, &self.protected, 1), 0);
         // The third slot of 0/4 has the file's first sector and track. Its
         // byte 2 is the header's mark.
         let (sector, track) = (image[814], image[815]);
@@ -116,7 +129,8 @@ impl Disc {
     /// Leaves no free sector, so that every save needs more than there is.
     fn fill(&mut self, random: &mut Random, name: &[u8]) {
         let sheet = random.bytes(capacity(free_count(&self.image)));
-        assert_eq!(reference::save(&mut self.image, name, 0, 0, 0, &sheet), 0);
+        let number = reference::save(&mut self.image, PLAIN, name, 0, 0, 0, &sheet);
+        assert_eq!(number, 0);
     }
 
     fn command(&self, random: &mut Random, call: Call, has: &impl Fn(u32) -> bool) -> Command {
@@ -264,7 +278,8 @@ mod tests {
         let mut random = Random::new(6);
         for _ in 0..5000 {
             let case = Case::draw(&mut random);
-            let number = case.command.run(&mut case.image.clone()).number();
+            let mut image = case.image.clone();
+            let number = case.command.run(&mut image, case.arrangement).number();
             let expected = case.expected_number();
             assert_eq!(number, expected, "{:?} {:?}", case.refusals, case.command);
         }

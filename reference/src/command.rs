@@ -52,20 +52,25 @@ pub enum Command {
     },
 }
 
-/// A command's answer, with the lent buffer or the view after the call.
+/// A command's answer, with the lent buffer or the view after the call. Only a
+/// view's start depends on how the image is arranged.
 #[derive(Debug, Clone, PartialEq, Eq)]
 pub enum Answer {
     Number(u32),
     Checked(Checked),
     Listed(Listed, Vec<u8>),
     Read(Reading, Vec<u8>),
-    Viewed(u32, Vec<u8>),
+    Viewed {
+        number: u32,
+        start: u32,
+        bytes: Vec<u8>,
+    },
 }
 
 impl Answer {
     pub fn number(&self) -> u32 {
         match self {
-            Answer::Number(number) | Answer::Viewed(number, _) => *number,
+            Answer::Number(number) | Answer::Viewed { number, .. } => *number,
             Answer::Checked(checked) => checked.number,
             Answer::Listed(listed, _) => listed.number,
             Answer::Read(reading, _) => reading.number,
@@ -78,27 +83,28 @@ impl Answer {
 }
 
 impl Command {
-    pub fn run(&self, image: &mut [u8]) -> Answer {
+    pub fn run(&self, image: &mut [u8], arrangement: u32) -> Answer {
         match self {
-            Command::Check => Answer::Checked(crate::check(image)),
+            Command::Check => Answer::Checked(crate::check(image, arrangement)),
             Command::List { buffer } => {
                 let mut lent = buffer.lend();
-                Answer::Listed(crate::list(image, &mut lent), lent)
+                Answer::Listed(crate::list(image, arrangement, &mut lent), lent)
             }
             Command::Read { name, buffer } => {
                 let mut lent = buffer.lend();
-                Answer::Read(crate::read(image, name, &mut lent), lent)
+                Answer::Read(crate::read(image, arrangement, name, &mut lent), lent)
             }
-            Command::View { track, sector } => Answer::Viewed(
-                crate::view_number(image, *track, *sector),
-                crate::view(image, *track, *sector).to_vec(),
-            ),
-            writing => Answer::Number(writing.run_writing(image)),
+            Command::View { track, sector } => Answer::Viewed {
+                number: crate::view_number(image, arrangement, *track, *sector),
+                start: crate::view_start(image, arrangement, *track, *sector),
+                bytes: crate::view(image, arrangement, *track, *sector).to_vec(),
+            },
+            writing => Answer::Number(writing.run_writing(image, arrangement)),
         }
     }
 
     /// The commands that may change the image; the others leave it and give 0.
-    fn run_writing(&self, image: &mut [u8]) -> u32 {
+    fn run_writing(&self, image: &mut [u8], arrangement: u32) -> u32 {
         match self {
             Command::Save {
                 name,
@@ -106,11 +112,11 @@ impl Command {
                 start,
                 transfer,
                 sheet,
-            } => crate::save(image, name, *page, *start, *transfer, sheet),
-            Command::Delete { name } => crate::delete(image, name),
-            Command::Rename { old, new } => crate::rename(image, old, new),
-            Command::Protect { name, on } => crate::protect(image, name, *on),
-            Command::Blank { name } => crate::blank(image, name),
+            } => crate::save(image, arrangement, name, *page, *start, *transfer, sheet),
+            Command::Delete { name } => crate::delete(image, arrangement, name),
+            Command::Rename { old, new } => crate::rename(image, arrangement, old, new),
+            Command::Protect { name, on } => crate::protect(image, arrangement, name, *on),
+            Command::Blank { name } => crate::blank(image, arrangement, name),
             Command::Check | Command::List { .. } | Command::Read { .. } | Command::View { .. } => {
                 0
             }

@@ -1,6 +1,6 @@
 //! Directory sectors, slots and entries.
 
-use crate::disc::{sector_mut, word, Address, Disc, Sector};
+use crate::disc::{word, Address, Disc, DiscMut, Sector};
 use crate::name::{Name, NAME_BYTES};
 
 pub const ENTRIES_IN_USE: usize = 2;
@@ -28,16 +28,16 @@ impl Slot {
         &disc.sector(self.sector)[self.offset()..self.offset() + SLOT_BYTES]
     }
 
-    pub fn bytes_mut(self, image: &mut [u8]) -> &mut [u8] {
-        &mut sector_mut(image, self.sector)[self.offset()..self.offset() + SLOT_BYTES]
+    pub fn bytes_mut<'a>(self, disc: &'a mut DiscMut<'_>) -> &'a mut [u8] {
+        &mut disc.sector_mut(self.sector)[self.offset()..self.offset() + SLOT_BYTES]
     }
 
-    pub fn put_name(self, image: &mut [u8], name: Name) {
-        self.bytes_mut(image)[..NAME_BYTES].copy_from_slice(&name.0);
+    pub fn put_name(self, disc: &mut DiscMut<'_>, name: Name) {
+        self.bytes_mut(disc)[..NAME_BYTES].copy_from_slice(&name.0);
     }
 
-    pub fn put_attribute(self, image: &mut [u8], attribute: u8) {
-        self.bytes_mut(image)[ATTRIBUTE] = attribute;
+    pub fn put_attribute(self, disc: &mut DiscMut<'_>, attribute: u8) {
+        self.bytes_mut(disc)[ATTRIBUTE] = attribute;
     }
 }
 
@@ -111,13 +111,13 @@ pub fn free_slot(disc: Disc<'_>) -> Option<Slot> {
 }
 
 /// Fills a slot and counts it in its sector's byte 2.
-pub fn fill_slot(image: &mut [u8], slot: Slot, entry: &Entry) {
-    slot.bytes_mut(image).copy_from_slice(&entry.encode());
-    sector_mut(image, slot.sector)[ENTRIES_IN_USE] += 1;
+pub fn fill_slot(disc: &mut DiscMut<'_>, slot: Slot, entry: &Entry) {
+    slot.bytes_mut(disc).copy_from_slice(&entry.encode());
+    disc.sector_mut(slot.sector)[ENTRIES_IN_USE] += 1;
 }
 
 /// Clears a slot and takes it from its sector's byte 2.
-pub fn clear_slot(image: &mut [u8], slot: Slot) {
-    slot.bytes_mut(image).fill(0);
-    sector_mut(image, slot.sector)[ENTRIES_IN_USE] -= 1;
+pub fn clear_slot(disc: &mut DiscMut<'_>, slot: Slot) {
+    slot.bytes_mut(disc).fill(0);
+    disc.sector_mut(slot.sector)[ENTRIES_IN_USE] -= 1;
 }

@@ -1,6 +1,8 @@
-//! The disc as sectors and chains, and the fields of the system sector.
+//! The disc as sectors and chains, their places in the image, and the fields
+//! of the system sector.
 
 use crate::refusal::Refusal;
+use std::ops::Range;
 
 pub const SECTOR_BYTES: usize = 256;
 pub const SECTORS_PER_TRACK: usize = 10;
@@ -15,6 +17,44 @@ pub const FREE_COUNT: usize = 0x14;
 pub const USED_COUNT: usize = 0x16;
 pub const DISC_NAME: usize = 0x18;
 pub const VERSION: usize = 0x40;
+
+/// The order in which the sectors of a track pass: along the chain of a blank
+/// disc, and from place to place of a moved image.
+pub const PASSING_ORDER: [u8; SECTORS_PER_TRACK] = [1, 4, 7, 10, 3, 6, 9, 2, 5, 8];
+
+/// Which place of its track each sector has in a moved image; sector 1 comes
+/// first here, and places count from 0.
+const MOVED_PLACES: [u8; SECTORS_PER_TRACK] = places_in(PASSING_ORDER);
+
+const fn places_in(order: [u8; SECTORS_PER_TRACK]) -> [u8; SECTORS_PER_TRACK] {
+    let mut places = [0; SECTORS_PER_TRACK];
+    let mut place = 0;
+    while place < SECTORS_PER_TRACK {
+        places[order[place] as usize - 1] = place as u8;
+        place += 1;
+    }
+    places
+}
+
+/// How the sectors of each track are arranged in the image.
+#[derive(Debug, Clone, Copy, PartialEq, Eq)]
+pub enum Arrangement {
+    /// By sector number.
+    Plain,
+    /// In passing order.
+    Moved,
+}
+
+impl Arrangement {
+    /// The arrangement that the caller states by number.
+    pub fn stated(number: u32) -> Option<Arrangement> {
+        match number {
+            0 => Some(Arrangement::Plain),
+            1 => Some(Arrangement::Moved),
+            _ => None,
+        }
+    }
+}
 
 /// A sector's number on the disc, 10t + s - 1. It is neither a byte position
 /// nor a track and sector pair, and the type keeps the three apart.
@@ -40,9 +80,18 @@ impl Sector {
         usize::from(self.0)
     }
 
-    /// Byte position of the sector in the image.
-    pub fn start(self) -> usize {
-        self.number() * SECTOR_BYTES
+    /// Byte position of the sector in an image. Nothing else knows how an
+    /// image is arranged.
+    fn start(self, arrangement: Arrangement) -> usize {
+        let number = self.number();
+        let place = match arrangement {
+            Arrangement::Plain => number,
+            Arrangement::Moved => {
+                let in_track = number % SECTORS_PER_TRACK;
+                number - in_track + usize::from(MOVED_PLACES[in_track])
+            }
+        };
+        place * SECTOR_BYTES
     }
 
     pub fn address(self) -> Address {
@@ -106,19 +155,25 @@ impl Address {
     }
 }
 
-/// An image of a right size, for reading.
+/// An image of a right size and a known arrangement, for reading.
 #[derive(Debug, Clone, Copy)]
 pub struct Disc<'a> {
     image: &'a [u8],
     tracks: usize,
+    arrangement: Arrangement,
 }
 
 impl<'a> Disc<'a> {
-    pub fn open(image: &'a [u8]) -> Result<Disc<'a>, Refusal> {
+    pub fn open(image: &'a [u8], arrangement: u32) -> Result<Disc<'a>, Refusal> {
+        let arrangement = Arrangement::stated(arrangement).ok_or(Refusal::Size)?;
         let tracks = image.len() / TRACK_BYTES;
         let right = image.len() % TRACK_BYTES == 0 && (1..=MAX_TRACKS).contains(&tracks);
         if right {
-            Ok(Disc { image, tracks })
+            Ok(Disc {
+                image,
+                tracks,
+                arrangement,
+            })
         } else {
             Err(Refusal::Size)
         }
@@ -132,9 +187,20 @@ impl<'a> Disc<'a> {
         self.tracks * SECTORS_PER_TRACK
     }
 
+    /// Where the 256 bytes of a sector lie in the image.
+    pub fn place(self, sector: Sector) -> Range<usize> {
+        let start = sector.start(self.arrangement);
+        start..start + SECTOR_BYTES
+    }
+
     /// The 256 bytes of a sector.
     pub fn sector(self, sector: Sector) -> &'a [u8] {
-        &self.image[sector.start()..sector.start() + SECTOR_BYTES]
+        &self.image[self.place(sector)]
+    }
+
+    /// The 256 bytes of 0/1.
+    pub fn system(self) -> &'a [u8] {
+        self.sector(Sector::SYSTEM)
     }
 
     pub fn link(self, sector: Sector) -> Address {
@@ -161,23 +227,87 @@ impl<'a> Disc<'a> {
     }
 
     pub fn free_pointer(self) -> Address {
-        Address::from_pointer(&self.image[FREE_POINTER..])
+        Address::from_pointer(&self.system()[FREE_POINTER..])
     }
 
     pub fn directory_pointer(self) -> Address {
-        Address::from_pointer(&self.image[DIRECTORY_POINTER..])
+        Address::from_pointer(&self.system()[DIRECTORY_POINTER..])
     }
 
     pub fn free_count(self) -> usize {
-        usize::from(word(self.image, FREE_COUNT))
+        usize::from(word(self.system(), FREE_COUNT))
     }
 
     pub fn used_count(self) -> usize {
-        usize::from(word(self.image, USED_COUNT))
+        usize::from(word(self.system(), USED_COUNT))
     }
 
     pub fn disc_name(self) -> &'a [u8] {
-        &self.image[DISC_NAME..DISC_NAME + 9]
+        &self.system()[DISC_NAME..DISC_NAME + 9]
+    }
+}
+
+/// An image of a right size and a known arrangement, for writing.
+#[derive(Debug)]
+pub struct DiscMut<'a> {
+    image: &'a mut [u8],
+    tracks: usize,
+    arrangement: Arrangement,
+}
+
+impl<'a> DiscMut<'a> {
+    pub fn open(image: &'a mut [u8], arrangement: u32) -> Result<DiscMut<'a>, Refusal> {
+        let Disc {
+            tracks,
+            arrangement,
+            ..
+        } = Disc::open(image, arrangement)?;
+        Ok(DiscMut {
+            image,
+            tracks,
+            arrangement,
+        })
+    }
+
+    /// The disc as it stands now.
+    pub fn now(&self) -> Disc<'_> {
+        Disc {
+            image: self.image,
+            tracks: self.tracks,
+            arrangement: self.arrangement,
+        }
+    }
+
+    pub fn clear(&mut self) {
+        self.image.fill(0);
+    }
+
+    pub fn sector_mut(&mut self, sector: Sector) -> &mut [u8] {
+        let place = self.now().place(sector);
+        &mut self.image[place]
+    }
+
+    pub fn system_mut(&mut self) -> &mut [u8] {
+        self.sector_mut(Sector::SYSTEM)
+    }
+
+    pub fn put_link(&mut self, sector: Sector, link: Address) {
+        self.sector_mut(sector)[..LINK_BYTES].copy_from_slice(&link.to_link());
+    }
+
+    pub fn put_free_pointer(&mut self, pointer: Address) {
+        self.system_mut()[FREE_POINTER..FREE_POINTER + 2].copy_from_slice(&pointer.to_pointer());
+    }
+
+    pub fn put_directory_pointer(&mut self, pointer: Address) {
+        self.system_mut()[DIRECTORY_POINTER..DIRECTORY_POINTER + 2]
+            .copy_from_slice(&pointer.to_pointer());
+    }
+
+    pub fn put_counts(&mut self, free: usize, used: usize) {
+        let system = self.system_mut();
+        put_word(system, FREE_COUNT, free as u16);
+        put_word(system, USED_COUNT, used as u16);
     }
 }
 
@@ -207,21 +337,4 @@ pub fn word(bytes: &[u8], at: usize) -> u16 {
 
 pub fn put_word(bytes: &mut [u8], at: usize, value: u16) {
     bytes[at..at + 2].copy_from_slice(&value.to_le_bytes());
-}
-
-pub fn sector_mut(image: &mut [u8], sector: Sector) -> &mut [u8] {
-    &mut image[sector.start()..sector.start() + SECTOR_BYTES]
-}
-
-pub fn put_link(image: &mut [u8], sector: Sector, link: Address) {
-    sector_mut(image, sector)[..LINK_BYTES].copy_from_slice(&link.to_link());
-}
-
-pub fn put_free_pointer(image: &mut [u8], pointer: Address) {
-    image[FREE_POINTER..FREE_POINTER + 2].copy_from_slice(&pointer.to_pointer());
-}
-
-pub fn put_counts(image: &mut [u8], free: usize, used: usize) {
-    put_word(image, FREE_COUNT, free as u16);
-    put_word(image, USED_COUNT, used as u16);
 }

@@ -1,10 +1,11 @@
 //! The history: a plain book of a run, and what it claims at each moment.
 //!
 //! The claims hold for any program that follows the document, so the calls
-//! that they speak of are taken from a `Program`.
+//! that they speak of are taken from a `Program`. A run has one arrangement
+//! throughout: the book is told it at the start and keeps it.
 
 use crate::command::Command;
-use crate::disc::{word, FREE_COUNT};
+use crate::disc::{word, Disc, Sector, FREE_COUNT};
 use crate::generate::typed_form;
 use crate::{check, list, read, save, Reading};
 
@@ -13,11 +14,13 @@ const WHOLE_PAGE: usize = 65_536;
 
 /// A program whose calls the claims of the book speak of.
 pub trait Program {
-    fn read(&self, image: &[u8], name: &[u8], buffer: &mut [u8]) -> Reading;
+    fn read(&self, image: &[u8], arrangement: u32, name: &[u8], buffer: &mut [u8]) -> Reading;
 
+    #[allow(clippy::too_many_arguments)]
     fn save(
         &self,
         image: &mut [u8],
+        arrangement: u32,
         name: &[u8],
         page: u32,
         start: u16,
@@ -31,20 +34,21 @@ pub trait Program {
 pub struct Reference;
 
 impl Program for Reference {
-    fn read(&self, image: &[u8], name: &[u8], buffer: &mut [u8]) -> Reading {
-        read(image, name, buffer)
+    fn read(&self, image: &[u8], arrangement: u32, name: &[u8], buffer: &mut [u8]) -> Reading {
+        read(image, arrangement, name, buffer)
     }
 
     fn save(
         &self,
         image: &mut [u8],
+        arrangement: u32,
         name: &[u8],
         page: u32,
         start: u16,
         transfer: u16,
         sheet: &[u8],
     ) -> u32 {
-        save(image, name, page, start, transfer, sheet)
+        save(image, arrangement, name, page, start, transfer, sheet)
     }
 }
 
@@ -68,6 +72,7 @@ pub struct StandingFile {
 /// was accepted; it never looks at the image again.
 #[derive(Debug, Clone, PartialEq, Eq)]
 pub struct Book {
+    arrangement: u32,
     sectors_on_disc: usize,
     directory_at_start: usize,
     /// The most files that stood at any moment from the start on.
@@ -76,19 +81,26 @@ pub struct Book {
 }
 
 impl Book {
-    /// The book of a run that starts with this image; none if it isn't sound.
-    pub fn start(image: &[u8]) -> Option<Book> {
-        let checked = check(image);
+    /// The book of a run that starts with this image, arranged like this
+    /// throughout; none if the image isn't sound.
+    pub fn start(image: &[u8], arrangement: u32) -> Option<Book> {
+        let checked = check(image, arrangement);
         if (checked.number, checked.rule) != (0, 0) {
             return None;
         }
-        let files = files_at_start(image);
+        let disc = Disc::open(image, arrangement).ok()?;
+        let files = files_at_start(image, arrangement);
         Some(Book {
+            arrangement,
             sectors_on_disc: image.len() / 256,
-            directory_at_start: follow(image, pointer(image, 0x12))?.len(),
+            directory_at_start: follow(disc, pointer(disc.system(), 0x12))?.len(),
             peak: files.len(),
             files,
         })
+    }
+
+    pub fn arrangement(&self) -> u32 {
+        self.arrangement
     }
 
     pub fn standing(&self) -> &[StandingFile] {
@@ -194,20 +206,20 @@ fn stored(typed: &[u8]) -> [u8; 9] {
     name
 }
 
-fn files_at_start(image: &[u8]) -> Vec<StandingFile> {
+fn files_at_start(image: &[u8], arrangement: u32) -> Vec<StandingFile> {
     let mut records = vec![0; 14 + 13 * SLOTS_PER_DIRECTORY_SECTOR * image.len() / 256 + 1];
-    let listed = list(image, &mut records);
+    let listed = list(image, arrangement, &mut records);
     records[14..listed.length as usize - 1]
         .chunks_exact(13)
-        .map(|record| file_at_start(image, record))
+        .map(|record| file_at_start(image, arrangement, record))
         .collect()
 }
 
-fn file_at_start(image: &[u8], record: &[u8]) -> StandingFile {
+fn file_at_start(image: &[u8], arrangement: u32, record: &[u8]) -> StandingFile {
     let mut name = [0; 9];
     name.copy_from_slice(&record[1..10]);
     let mut buffer = vec![0; WHOLE_PAGE];
-    let reading = read(image, &typed_form(&name), &mut buffer);
+    let reading = read(image, arrangement, &typed_form(&name), &mut buffer);
     StandingFile {
         name,
         sectors: usize::from(word(record, 10)),
@@ -221,23 +233,23 @@ fn file_at_start(image: &[u8], record: &[u8]) -> StandingFile {
 }
 
 /// A pointer's track and sector, which stand sector first.
-fn pointer(image: &[u8], at: usize) -> (u8, u8) {
-    (image[at + 1], image[at])
+fn pointer(sector: &[u8], at: usize) -> (u8, u8) {
+    (sector[at + 1], sector[at])
 }
 
 /// The sector numbers from a track and sector to the end link; nothing if the
 /// chain leaves the disc or is longer than it.
-fn follow(image: &[u8], head: (u8, u8)) -> Option<Vec<usize>> {
+fn follow(disc: Disc<'_>, head: (u8, u8)) -> Option<Vec<usize>> {
     let mut met = Vec::new();
     let (mut track, mut sector) = head;
     while sector != 0 {
         let number = usize::from(track) * 10 + usize::from(sector) - 1;
-        if sector > 10 || number >= image.len() / 256 || met.len() == image.len() / 256 {
+        if sector > 10 || number >= disc.sectors() || met.len() == disc.sectors() {
             return None;
         }
         met.push(number);
-        track = image[number * 256];
-        sector = image[number * 256 + 1];
+        let bytes = disc.sector(Sector::numbered(number));
+        (track, sector) = (bytes[0], bytes[1]);
     }
     Some(met)
 }
@@ -261,32 +273,36 @@ struct Places {
     free: Vec<usize>,
 }
 
-fn places(image: &[u8]) -> Option<Places> {
-    let directory = follow(image, pointer(image, 0x12))?;
-    let files: Option<Vec<Vec<usize>>> = file_heads(image, &directory)
+fn places(disc: Disc<'_>) -> Option<Places> {
+    let directory = follow(disc, pointer(disc.system(), 0x12))?;
+    let files: Option<Vec<Vec<usize>>> = file_heads(disc, &directory)
         .into_iter()
-        .map(|head| follow(image, head))
+        .map(|head| follow(disc, head))
         .collect();
     Some(Places {
         directory,
         files: files?,
-        free: follow(image, pointer(image, 0x10))?,
+        free: follow(disc, pointer(disc.system(), 0x10))?,
     })
 }
 
 /// Every sector in exactly one place, and the free sectors as the sum says.
 /// The part of `moment_fault` that calls nothing.
 pub fn places_fault(image: &[u8], book: &Book) -> Option<String> {
-    let places = match places(image) {
+    let disc = match Disc::open(image, book.arrangement) {
+        Ok(disc) => disc,
+        Err(_) => return Some("the image is of no right size".to_string()),
+    };
+    let places = match places(disc) {
         Some(places) => places,
         None => return Some("a chain leaves the disc or does not end".to_string()),
     };
-    let mut met = vec![0; image.len() / 256];
+    let mut met = vec![0; disc.sectors()];
     let in_files = places.files.iter().flatten();
     for &number in in_files.chain(&places.directory).chain(&places.free) {
         met[number] += 1;
     }
-    let counted = usize::from(word(image, FREE_COUNT));
+    let counted = usize::from(word(disc.system(), FREE_COUNT));
     let (chained, sum) = (places.free.len(), book.free());
     if met[0] != 0 || met[1..].iter().any(|&times| times != 1) {
         Some(format!("sectors are not met once each: {met:?}"))
@@ -300,13 +316,14 @@ pub fn places_fault(image: &[u8], book: &Book) -> Option<String> {
 }
 
 /// The first sector's track and sector of each entry, in directory order.
-fn file_heads(image: &[u8], directory: &[usize]) -> Vec<(u8, u8)> {
-    let slots = directory
-        .iter()
-        .flat_map(|number| (0..15).map(move |index| number * 256 + 3 + 16 * index));
+fn file_heads(disc: Disc<'_>, directory: &[usize]) -> Vec<(u8, u8)> {
+    let slots = directory.iter().flat_map(|&number| {
+        let sector = disc.sector(Sector::numbered(number));
+        sector[3..243].chunks_exact(16)
+    });
     slots
-        .filter(|&slot| image[slot..slot + 16] != [0; 16])
-        .map(|slot| pointer(image, slot + 11))
+        .filter(|&slot| slot != [0; 16])
+        .map(|slot| pointer(slot, 11))
         .collect()
 }
 
@@ -323,7 +340,8 @@ fn room_fault(program: &impl Program, image: &[u8], book: &Book) -> Option<Strin
         .into_iter()
         .filter(|&length| length <= WHOLE_PAGE)
         .find_map(|length| {
-            let answer = program.save(&mut image.to_vec(), &name, 0, 0, 0, &vec![7; length]);
+            let (mut copy, sheet) = (image.to_vec(), vec![7; length]);
+            let answer = program.save(&mut copy, book.arrangement, &name, 0, 0, 0, &sheet);
             let expected = if book.need(length) <= free { 0 } else { 8 };
             (answer != expected)
                 .then(|| format!("save of {length} bytes with {free} free: {answer}"))
@@ -340,19 +358,20 @@ fn readings_fault(program: &impl Program, image: &[u8], book: &Book) -> Option<S
         let lengths = [0, length - 1, length, length + 3];
         lengths
             .iter()
-            .find_map(|&lent| reading_fault(program, image, file, lent))
+            .find_map(|&lent| reading_fault(program, image, book.arrangement, file, lent))
     })
 }
 
 fn reading_fault(
     program: &impl Program,
     image: &[u8],
+    arrangement: u32,
     file: &StandingFile,
     lent: usize,
 ) -> Option<String> {
     const FILL: u8 = 0xA5;
     let mut buffer = vec![FILL; lent];
-    let answer = program.read(image, &typed_form(&file.name), &mut buffer);
+    let answer = program.read(image, arrangement, &typed_form(&file.name), &mut buffer);
     let mut expected_buffer = vec![FILL; lent];
     let expected = match &file.reading {
         BookReading::NotPlain => refused(9),
@@ -381,7 +400,7 @@ fn refused(number: u32) -> Reading {
 /// Legal names that are not in the book give 4.
 fn absent_fault(program: &impl Program, image: &[u8], book: &Book) -> Option<String> {
     absent_names(book).find_map(|name| {
-        let answer = program.read(image, &name, &mut [0; 8]);
+        let answer = program.read(image, book.arrangement, &name, &mut [0; 8]);
         let typed = String::from_utf8_lossy(&name);
         (answer != refused(4)).then(|| format!("absent '{typed}' gives {answer:?}"))
     })

@@ -3,6 +3,10 @@
 //! The public calls work on plain bytes and answer in numbers: 0 is done, any
 //! other number is a refusal and leaves all lent memory as it was. Any bytes
 //! may be handed in.
+//!
+//! Each call on an image is told how the image is arranged: 0 is plain, the
+//! sectors of each track by number; 1 is moved, in passing order. Any other
+//! number is refused with 1, like a wrong length.
 
 #![forbid(unsafe_code)]
 
@@ -46,8 +50,8 @@ pub struct Reading {
 }
 
 /// Checks the eight rules of a sound image.
-pub fn check(image: &[u8]) -> Checked {
-    match Disc::open(image) {
+pub fn check(image: &[u8], arrangement: u32) -> Checked {
+    match Disc::open(image, arrangement) {
         Ok(disc) => Checked {
             number: 0,
             rule: check::broken_rule(disc),
@@ -60,8 +64,8 @@ pub fn check(image: &[u8]) -> Checked {
 }
 
 /// Writes the disc's and the files' records to the front of the buffer.
-pub fn list(image: &[u8], buffer: &mut [u8]) -> Listed {
-    match commands::list(image, buffer) {
+pub fn list(image: &[u8], arrangement: u32, buffer: &mut [u8]) -> Listed {
+    match commands::list(image, arrangement, buffer) {
         Ok(length) => Listed {
             number: 0,
             length: length as u32,
@@ -74,8 +78,8 @@ pub fn list(image: &[u8], buffer: &mut [u8]) -> Listed {
 }
 
 /// Reads a file's load module, its bytes to the front of the buffer.
-pub fn read(image: &[u8], name: &[u8], buffer: &mut [u8]) -> Reading {
-    commands::read(image, name, buffer).unwrap_or_else(|refusal| Reading {
+pub fn read(image: &[u8], arrangement: u32, name: &[u8], buffer: &mut [u8]) -> Reading {
+    commands::read(image, arrangement, name, buffer).unwrap_or_else(|refusal| Reading {
         number: refusal.number(),
         page: 0,
         start: 0,
@@ -88,41 +92,62 @@ pub fn read(image: &[u8], name: &[u8], buffer: &mut [u8]) -> Reading {
 /// Saves a sheet of bytes as a new, unprotected file.
 pub fn save(
     image: &mut [u8],
+    arrangement: u32,
     name: &[u8],
     page: u32,
     start: u16,
     transfer: u16,
     sheet: &[u8],
 ) -> u32 {
-    refusal::number(save::save(image, name, page, start, transfer, sheet))
+    refusal::number(save::save(
+        image,
+        arrangement,
+        name,
+        page,
+        start,
+        transfer,
+        sheet,
+    ))
 }
 
 /// Deletes an unprotected file; its sectors go to the head of the free chain.
-pub fn delete(image: &mut [u8], name: &[u8]) -> u32 {
-    refusal::number(commands::delete(image, name))
+pub fn delete(image: &mut [u8], arrangement: u32, name: &[u8]) -> u32 {
+    refusal::number(commands::delete(image, arrangement, name))
 }
 
 /// Gives an unprotected file a name that does not stand yet.
-pub fn rename(image: &mut [u8], old: &[u8], new: &[u8]) -> u32 {
-    refusal::number(commands::rename(image, old, new))
+pub fn rename(image: &mut [u8], arrangement: u32, old: &[u8], new: &[u8]) -> u32 {
+    refusal::number(commands::rename(image, arrangement, old, new))
 }
 
 /// Protects a file, or with 0 lifts its protection.
-pub fn protect(image: &mut [u8], name: &[u8], on: u32) -> u32 {
-    refusal::number(commands::protect(image, name, on))
+pub fn protect(image: &mut [u8], arrangement: u32, name: &[u8], on: u32) -> u32 {
+    refusal::number(commands::protect(image, arrangement, name, on))
 }
 
 /// Makes the whole image a blank data disc.
-pub fn blank(image: &mut [u8], name: &[u8]) -> u32 {
-    refusal::number(commands::blank(image, name))
+pub fn blank(image: &mut [u8], arrangement: u32, name: &[u8]) -> u32 {
+    refusal::number(commands::blank(image, arrangement, name))
 }
 
 /// The 254 bytes after a sector's link, in the image itself; empty if refused.
-pub fn view(image: &[u8], track: u32, sector: u32) -> &[u8] {
-    commands::view(image, track, sector).unwrap_or(&[])
+pub fn view(image: &[u8], arrangement: u32, track: u32, sector: u32) -> &[u8] {
+    commands::view(image, arrangement, track, sector).map_or(&[], |shown| &image[shown])
 }
 
 /// The number that belongs to a view with the same arguments.
-pub fn view_number(image: &[u8], track: u32, sector: u32) -> u32 {
-    refusal::number(commands::view(image, track, sector).map(|_| ()))
+pub fn view_number(image: &[u8], arrangement: u32, track: u32, sector: u32) -> u32 {
+    refusal::number(commands::view(image, arrangement, track, sector).map(|_| ()))
+}
+
+/// Where in the image the bytes of a view with the same arguments begin; 0 if
+/// refused, since a link stands before every view.
+pub fn view_start(image: &[u8], arrangement: u32, track: u32, sector: u32) -> u32 {
+    commands::view(image, arrangement, track, sector).map_or(0, |shown| shown.start as u32)
+}
+
+/// The sectors of an image arranged as `from`, in the arrangement `to`; nothing
+/// for a wrong length or number.
+pub fn rearranged(image: &[u8], from: u32, to: u32) -> Option<Vec<u8>> {
+    commands::rearranged(image, from, to).ok()
 }

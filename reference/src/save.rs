@@ -2,7 +2,7 @@
 
 use crate::check::require_sound;
 use crate::directory::{self, Entry, Slot, UNPROTECTED};
-use crate::disc::{put_counts, put_free_pointer, put_link, sector_mut, Address, Disc, Sector};
+use crate::disc::{Address, Disc, DiscMut, Sector};
 use crate::module::{sectors_taken, write_sector, Header};
 use crate::name::Name;
 use crate::refusal::Refusal;
@@ -21,24 +21,25 @@ struct Plan {
 
 pub fn save(
     image: &mut [u8],
+    arrangement: u32,
     name: &[u8],
     page: u32,
     start: u16,
     transfer: u16,
     sheet: &[u8],
 ) -> Result<(), Refusal> {
-    let disc = Disc::open(image)?;
+    let mut disc = DiscMut::open(image, arrangement)?;
     let name = Name::of_file(name).ok_or(Refusal::Name)?;
     let header = Header::new(page, start, transfer, sheet.len()).ok_or(Refusal::Module)?;
-    require_sound(disc)?;
-    if directory::find(disc, name).is_some() {
+    require_sound(disc.now())?;
+    if directory::find(disc.now(), name).is_some() {
         return Err(Refusal::Taken);
     }
-    let plan = plan(disc, sheet.len()).ok_or(Refusal::Room)?;
-    write_file(image, &plan.file, &header, sheet);
-    write_entry(image, &plan, name);
-    put_free_pointer(image, plan.free_pointer);
-    put_counts(image, plan.free_count, plan.used_count);
+    let plan = plan(disc.now(), sheet.len()).ok_or(Refusal::Room)?;
+    write_file(&mut disc, &plan.file, &header, sheet);
+    write_entry(&mut disc, &plan, name);
+    disc.put_free_pointer(plan.free_pointer);
+    disc.put_counts(plan.free_count, plan.used_count);
     Ok(())
 }
 
@@ -69,21 +70,21 @@ fn plan(disc: Disc<'_>, length: usize) -> Option<Plan> {
     })
 }
 
-fn write_file(image: &mut [u8], file: &[Sector], header: &Header, sheet: &[u8]) {
+fn write_file(disc: &mut DiscMut<'_>, file: &[Sector], header: &Header, sheet: &[u8]) {
     let mut left = sheet;
     for (position, &sector) in file.iter().enumerate() {
-        left = write_sector(sector_mut(image, sector), position, header, left);
+        left = write_sector(disc.sector_mut(sector), position, header, left);
         let link = file
             .get(position + 1)
             .map_or(Address::END, |next| next.address());
-        put_link(image, sector, link);
+        disc.put_link(sector, link);
     }
 }
 
-fn write_entry(image: &mut [u8], plan: &Plan, name: Name) {
+fn write_entry(disc: &mut DiscMut<'_>, plan: &Plan, name: Name) {
     if let Some(last) = plan.grows_from {
-        sector_mut(image, plan.slot.sector).fill(0);
-        put_link(image, last, plan.slot.sector.address());
+        disc.sector_mut(plan.slot.sector).fill(0);
+        disc.put_link(last, plan.slot.sector.address());
     }
     let entry = Entry {
         name,
@@ -92,5 +93,5 @@ fn write_entry(image: &mut [u8], plan: &Plan, name: Name) {
         last: plan.file[plan.file.len() - 1].address(),
         attribute: UNPROTECTED,
     };
-    directory::fill_slot(image, plan.slot, &entry);
+    directory::fill_slot(disc, plan.slot, &entry);
 }

@@ -5,6 +5,10 @@
 #include "lent.h"
 #include "report.h"
 
+/* What a call takes of a lent image. */
+#define ON(image) (image).bytes, (image).length, stated
+
+uint32_t stated = TANDOS_PLAIN;
 uint8_t answer[BUFFER_MAX];
 
 struct text text(const char *characters)
@@ -23,7 +27,10 @@ struct text bytes(const uint8_t *bytes, size_t length)
 
 static struct lent lend_disc(const struct disc *disc)
 {
-    return lend(disc->bytes, disc->length);
+    static uint8_t image[DISC_MAX];
+
+    arrange(image, disc->bytes, disc->length, stated);
+    return lend(image, disc->length);
 }
 
 static struct lent lend_text(struct text text)
@@ -35,8 +42,7 @@ static struct lent lend_text(struct text text)
 static void take_back(const char *what, struct disc *disc, struct lent *image,
                       uint32_t number)
 {
-    if (disc->length > 0)
-        memcpy(disc->bytes, image->bytes, disc->length);
+    arrange_back(disc->bytes, image->bytes, disc->length, stated);
     expect_kept_beyond(number == TANDOS_DONE ? disc->length : 0, what, image);
 }
 
@@ -59,7 +65,7 @@ static void take_buffer(const char *what, struct lent *buffer, size_t written)
 tandos_checked try_check(const struct disc *disc)
 {
     struct lent image = lend_disc(disc);
-    tandos_checked checked = tandos_check(image.bytes, image.length);
+    tandos_checked checked = tandos_check(ON(image));
 
     expect_kept_beyond(0, "image after check", &image);
     if (checked.number != TANDOS_DONE)
@@ -71,8 +77,7 @@ tandos_listed try_list(const struct disc *disc, size_t buffer_len)
 {
     struct lent image = lend_disc(disc);
     struct lent buffer = lend_buffer(buffer_len);
-    tandos_listed listed = tandos_list(image.bytes, image.length, buffer.bytes,
-                                       buffer.length);
+    tandos_listed listed = tandos_list(ON(image), buffer.bytes, buffer.length);
 
     expect_kept_beyond(0, "image after list", &image);
     take_buffer("buffer after list", &buffer,
@@ -98,8 +103,8 @@ tandos_reading try_read(const struct disc *disc, struct text name,
     struct lent typed = lend_text(name);
     struct lent buffer = lend_buffer(buffer_len);
     tandos_reading reading =
-        tandos_read(image.bytes, image.length, typed.bytes, typed.length,
-                    buffer.bytes, buffer.length);
+        tandos_read(ON(image), typed.bytes, typed.length, buffer.bytes,
+                    buffer.length);
 
     expect_kept_beyond(0, "image after read", &image);
     expect_kept_beyond(0, "name after read", &typed);
@@ -117,8 +122,8 @@ uint32_t try_save(struct disc *disc, struct text name, uint32_t page,
     struct lent typed = lend_text(name);
     struct lent module = lend_text(sheet);
     uint32_t number =
-        tandos_save(image.bytes, image.length, typed.bytes, typed.length,
-                    page, start, transfer, module.bytes, module.length);
+        tandos_save(ON(image), typed.bytes, typed.length, page, start,
+                    transfer, module.bytes, module.length);
 
     take_back("image after save", disc, &image, number);
     expect_kept_beyond(0, "name after save", &typed);
@@ -130,8 +135,7 @@ uint32_t try_delete(struct disc *disc, struct text name)
 {
     struct lent image = lend_disc(disc);
     struct lent typed = lend_text(name);
-    uint32_t number = tandos_delete(image.bytes, image.length, typed.bytes,
-                                    typed.length);
+    uint32_t number = tandos_delete(ON(image), typed.bytes, typed.length);
 
     take_back("image after delete", disc, &image, number);
     expect_kept_beyond(0, "name after delete", &typed);
@@ -145,8 +149,8 @@ uint32_t try_rename(struct disc *disc, struct text old_name,
     struct lent old_typed = lend_text(old_name);
     struct lent new_typed = lend_text(new_name);
     uint32_t number =
-        tandos_rename(image.bytes, image.length, old_typed.bytes,
-                      old_typed.length, new_typed.bytes, new_typed.length);
+        tandos_rename(ON(image), old_typed.bytes, old_typed.length,
+                      new_typed.bytes, new_typed.length);
 
     take_back("image after rename", disc, &image, number);
     expect_kept_beyond(0, "old name after rename", &old_typed);
@@ -158,8 +162,7 @@ uint32_t try_protect(struct disc *disc, struct text name, uint32_t on)
 {
     struct lent image = lend_disc(disc);
     struct lent typed = lend_text(name);
-    uint32_t number = tandos_protect(image.bytes, image.length, typed.bytes,
-                                     typed.length, on);
+    uint32_t number = tandos_protect(ON(image), typed.bytes, typed.length, on);
 
     take_back("image after protect", disc, &image, number);
     expect_kept_beyond(0, "name after protect", &typed);
@@ -170,8 +173,7 @@ uint32_t try_blank(struct disc *disc, struct text name)
 {
     struct lent image = lend_disc(disc);
     struct lent typed = lend_text(name);
-    uint32_t number = tandos_blank(image.bytes, image.length, typed.bytes,
-                                   typed.length);
+    uint32_t number = tandos_blank(ON(image), typed.bytes, typed.length);
 
     take_back("image after blank", disc, &image, number);
     expect_kept_beyond(0, "name after blank", &typed);
@@ -182,11 +184,14 @@ uint32_t try_view_number(const struct disc *disc, uint32_t track,
                          uint32_t sector)
 {
     struct lent image = lend_disc(disc);
-    uint32_t number = tandos_view_number(image.bytes, image.length, track,
-                                         sector);
-    const uint8_t *view = tandos_view(image.bytes, image.length, track, sector);
+    uint32_t number = tandos_view_number(ON(image), track, sector);
+    uint32_t start = tandos_view_start(ON(image), track, sector);
+    const uint8_t *view = tandos_view(ON(image), track, sector);
 
+    EXPECT_NUMBER(number == TANDOS_DONE, start != 0);
     EXPECT_NUMBER(number == TANDOS_DONE, view != NULL);
+    if (view != NULL)
+        EXPECT_NUMBER(start, (size_t)(view - image.bytes));
     expect_kept_beyond(0, "image after view", &image);
     return number;
 }

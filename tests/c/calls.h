@@ -10,6 +10,10 @@
 #include "discs.h"
 #include "tandos.h"
 
+/* The arrangement that these calls state. The image that they lend is the disc
+ * in that arrangement. */
+extern uint32_t stated;
+
 /* A name, sheet or buffer to lend. */
 struct text {
     const uint8_t *bytes;

@@ -22,6 +22,43 @@ struct place place(unsigned track, unsigned sector)
     return place;
 }
 
+/* Where the sectors 1 to 10 of a track stand in a moved image, counted from 0:
+ * passing order puts 1, 4, 7, 10, 3, 6, 9, 2, 5, 8 there. */
+static const size_t moved_places[] = { 0, 7, 4, 1, 8, 5, 2, 9, 6, 3 };
+
+/* Where the sector of a plain image that begins at a byte begins in an image
+ * of the arrangement. Only 1 is not plain. */
+static size_t arranged_start(size_t plain_start, uint32_t arrangement)
+{
+    size_t track = plain_start / 2560;
+    size_t place = plain_start % 2560 / 256;
+
+    return arrangement == 1 ? 2560 * track + 256 * moved_places[place]
+                            : plain_start;
+}
+
+void arrange(uint8_t *image, const uint8_t *plain, size_t length,
+             uint32_t arrangement)
+{
+    size_t whole = length - length % 2560;
+    size_t start;
+
+    for (start = 0; start < whole; start += 256)
+        memcpy(image + arranged_start(start, arrangement), plain + start, 256);
+    memcpy(image + whole, plain + whole, length - whole);
+}
+
+void arrange_back(uint8_t *plain, const uint8_t *image, size_t length,
+                  uint32_t arrangement)
+{
+    size_t whole = length - length % 2560;
+    size_t start;
+
+    for (start = 0; start < whole; start += 256)
+        memcpy(plain + start, image + arranged_start(start, arrangement), 256);
+    memcpy(plain + whole, image + whole, length - whole);
+}
+
 struct place free_place(unsigned k)
 {
     static const unsigned passed[] = { 1, 4, 7, 10, 3, 6, 9, 2, 5, 8 };

@@ -11,10 +11,18 @@
 /* One track more than any disc has, for images that are too long. */
 #define DISC_MAX (81 * 2560)
 
+/* A disc by its plain image. */
 struct disc {
     size_t length;
     uint8_t bytes[DISC_MAX];
 };
+
+/* The image of a disc in an arrangement, and back. Bytes beyond the last whole
+ * track stay where they stand. */
+void arrange(uint8_t *image, const uint8_t *plain, size_t length,
+             uint32_t arrangement);
+void arrange_back(uint8_t *plain, const uint8_t *image, size_t length,
+                  uint32_t arrangement);
 
 /* A sector's place on the disc, t/s. */
 struct place {

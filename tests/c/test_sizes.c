@@ -21,20 +21,21 @@ static void refused_for_size(struct disc *disc)
 /* Nothing lent at all: no call may look behind a NULL. */
 static void nothing_lent(void)
 {
-    tandos_reading reading = tandos_read(NULL, 0, NULL, 0, NULL, 0);
+    tandos_reading reading = tandos_read(NULL, 0, stated, NULL, 0, NULL, 0);
 
-    EXPECT_NUMBER(1, tandos_check(NULL, 0).number);
-    EXPECT_NUMBER(0, tandos_check(NULL, 0).rule);
-    EXPECT_NUMBER(1, tandos_list(NULL, 0, NULL, 0).number);
+    EXPECT_NUMBER(1, tandos_check(NULL, 0, stated).number);
+    EXPECT_NUMBER(0, tandos_check(NULL, 0, stated).rule);
+    EXPECT_NUMBER(1, tandos_list(NULL, 0, stated, NULL, 0).number);
     EXPECT_NUMBER(1, reading.number);
     EXPECT_NUMBER(0, reading.length);
-    EXPECT_NUMBER(1, tandos_save(NULL, 0, NULL, 0, 0, 0, 0, NULL, 0));
-    EXPECT_NUMBER(1, tandos_delete(NULL, 0, NULL, 0));
-    EXPECT_NUMBER(1, tandos_rename(NULL, 0, NULL, 0, NULL, 0));
-    EXPECT_NUMBER(1, tandos_protect(NULL, 0, NULL, 0, 0));
-    EXPECT_NUMBER(1, tandos_blank(NULL, 0, NULL, 0));
-    EXPECT_NUMBER(1, tandos_view_number(NULL, 0, 0, 1));
-    EXPECT_NUMBER(1, tandos_view(NULL, 0, 0, 1) == NULL);
+    EXPECT_NUMBER(1, tandos_save(NULL, 0, stated, NULL, 0, 0, 0, 0, NULL, 0));
+    EXPECT_NUMBER(1, tandos_delete(NULL, 0, stated, NULL, 0));
+    EXPECT_NUMBER(1, tandos_rename(NULL, 0, stated, NULL, 0, NULL, 0));
+    EXPECT_NUMBER(1, tandos_protect(NULL, 0, stated, NULL, 0, 0));
+    EXPECT_NUMBER(1, tandos_blank(NULL, 0, stated, NULL, 0));
+    EXPECT_NUMBER(1, tandos_view_number(NULL, 0, stated, 0, 1));
+    EXPECT_NUMBER(0, tandos_view_start(NULL, 0, stated, 0, 1));
+    EXPECT_NUMBER(1, tandos_view(NULL, 0, stated, 0, 1) == NULL);
 }
 
 /* An image lent, and beside it NULL with length 0. */
@@ -42,7 +43,7 @@ static void no_name_and_no_buffer(void)
 {
     struct text nothing = bytes(NULL, 0);
     struct disc disc, expected;
-    uint8_t *image = disc.bytes;
+    static uint8_t image[2560];
     uint8_t name[1] = { 'A' };
 
     make_small(&disc);
@@ -54,9 +55,11 @@ static void no_name_and_no_buffer(void)
     EXPECT_NUMBER(2, try_rename(&disc, nothing, text("C")));
     EXPECT_NUMBER(2, try_protect(&disc, nothing, 1));
     EXPECT_NUMBER(2, try_blank(&disc, nothing));
-    EXPECT_NUMBER(10, tandos_list(image, disc.length, NULL, 0).number);
-    EXPECT_NUMBER(2, tandos_read(image, disc.length, NULL, 0, NULL, 0).number);
-    EXPECT_NUMBER(10, tandos_read(image, disc.length, name, 1, NULL, 0).number);
+    arrange(image, disc.bytes, 2560, stated);
+    EXPECT_NUMBER(10, tandos_list(image, 2560, stated, NULL, 0).number);
+    EXPECT_NUMBER(2, tandos_read(image, 2560, stated, NULL, 0, NULL, 0).number);
+    EXPECT_NUMBER(10,
+                  tandos_read(image, 2560, stated, name, 1, NULL, 0).number);
     expect_disc("disc after refusals", &expected, &disc);
 }
 

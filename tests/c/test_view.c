@@ -5,16 +5,21 @@
 #include "report.h"
 #include "tests.h"
 
-/* The image position of the first byte shown; 0, where none is, if refused. */
+/* The image position of the first byte shown; 0, where none is, if refused.
+ * What the image holds does not matter to it. */
 static size_t shown_at(const struct disc *disc, uint32_t track, uint32_t sector)
 {
     const uint8_t *view =
-        tandos_view(disc->bytes, disc->length, track, sector);
+        tandos_view(disc->bytes, disc->length, stated, track, sector);
+    uint32_t start =
+        tandos_view_start(disc->bytes, disc->length, stated, track, sector);
+    size_t shown = view == NULL ? 0 : (size_t)(view - disc->bytes);
 
-    return view == NULL ? 0 : (size_t)(view - disc->bytes);
+    EXPECT_NUMBER(start, shown);
+    return shown;
 }
 
-static void places(const struct disc *disc)
+static void plain_places(const struct disc *disc)
 {
     EXPECT_NUMBER(0 + 2, shown_at(disc, 0, 1));
     EXPECT_NUMBER(256 + 2, shown_at(disc, 0, 2));
@@ -22,6 +27,25 @@ static void places(const struct disc *disc)
     EXPECT_NUMBER(2304 + 2, shown_at(disc, 0, 10));
     EXPECT_NUMBER(2560 + 2, shown_at(disc, 1, 1));
     EXPECT_NUMBER(102144 + 2, shown_at(disc, 39, 10));
+}
+
+static void moved_places(const struct disc *disc)
+{
+    EXPECT_NUMBER(0 + 2, shown_at(disc, 0, 1));
+    EXPECT_NUMBER(256 + 2, shown_at(disc, 0, 4));
+    EXPECT_NUMBER(512 + 2, shown_at(disc, 0, 7));
+    EXPECT_NUMBER(768 + 2, shown_at(disc, 0, 10));
+    EXPECT_NUMBER(2304 + 2, shown_at(disc, 0, 8));
+    EXPECT_NUMBER(2560 + 2, shown_at(disc, 1, 1));
+    EXPECT_NUMBER(99840 + 768 + 2, shown_at(disc, 39, 10));
+}
+
+static void places(const struct disc *disc)
+{
+    if (stated == TANDOS_MOVED)
+        moved_places(disc);
+    else
+        plain_places(disc);
 }
 
 static void not_on_the_disc(const struct disc *disc, uint32_t tracks)
@@ -45,14 +69,35 @@ static void not_on_the_disc(const struct disc *disc, uint32_t tracks)
     EXPECT_NUMBER(11, try_view_number(disc, 0xFFFFFFFF, 0xFFFFFFFF));
 }
 
+/* The sectors of each track, in the order in which they stand in the image. */
 static void every_sector(const struct disc *disc)
 {
+    static const uint32_t orders[][10] = {
+        { 1, 2, 3, 4, 5, 6, 7, 8, 9, 10 },
+        { 1, 4, 7, 10, 3, 6, 9, 2, 5, 8 }
+    };
+    size_t place;
+
+    for (place = 0; place < 800; place++)
+        EXPECT_NUMBER(256 * place + 2,
+                      shown_at(disc, (uint32_t)(place / 10),
+                               orders[stated][place % 10]));
+}
+
+/* The bytes shown are the sector's own, in any arrangement. */
+static void bytes_shown(void)
+{
+    static uint8_t image[2 * 2560];
+    struct disc disc;
     uint32_t track, sector;
 
-    for (track = 0; track < 80; track++)
+    make_fifteen(&disc);
+    arrange(image, disc.bytes, sizeof image, stated);
+    for (track = 0; track < 2; track++)
         for (sector = 1; sector <= 10; sector++)
-            EXPECT_NUMBER(2560 * track + 256 * (sector - 1) + 2,
-                          shown_at(disc, track, sector));
+            expect_bytes("view", at(&disc, place(track, sector), 2),
+                         tandos_view(image, sizeof image, stated, track,
+                                     sector), 254);
 }
 
 void test_view(void)
@@ -70,4 +115,5 @@ void test_view(void)
     disc.length = 80 * 2560;
     not_on_the_disc(&disc, 80);
     every_sector(&disc);
+    bytes_shown();
 }

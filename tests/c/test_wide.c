@@ -5,6 +5,7 @@
  */
 #include <stdio.h>
 #include <stdlib.h>
+#include <string.h>
 
 #include "calls.h"
 #include "report.h"
@@ -15,28 +16,29 @@
 #define CUT_TO_ZERO ((size_t)1 << 32)
 
 /* Cut to 32 bits, each length below would be right: 2,560, 1 and 1. */
-static void too_long(uint8_t *wide, struct disc *disc)
+static void too_long(uint8_t *wide, uint8_t *image)
 {
-    struct disc expected = *disc;
-    uint8_t name[1] = { 'C' };
+    uint8_t expected[2560], name[1] = { 'C' };
 
-    EXPECT_NUMBER(1, tandos_check(wide, CUT_TO_ZERO + 2560).number);
-    EXPECT_NUMBER(1, tandos_view_number(wide, CUT_TO_ZERO + 2560, 0, 1));
-    EXPECT_NUMBER(2, tandos_delete(disc->bytes, disc->length, wide,
+    memcpy(expected, image, 2560);
+    EXPECT_NUMBER(1, tandos_check(wide, CUT_TO_ZERO + 2560, stated).number);
+    EXPECT_NUMBER(1, tandos_view_number(wide, CUT_TO_ZERO + 2560, stated, 0,
+                                        1));
+    EXPECT_NUMBER(0, tandos_view_start(wide, CUT_TO_ZERO + 2560, stated, 0, 1));
+    EXPECT_NUMBER(2, tandos_delete(image, 2560, stated, wide,
                                    CUT_TO_ZERO + 1));
-    EXPECT_NUMBER(7, tandos_save(disc->bytes, disc->length, name, 1, 0, 0, 0,
-                                 wide, CUT_TO_ZERO + 1));
-    expect_disc("disc after refusals", &expected, disc);
+    EXPECT_NUMBER(7, tandos_save(image, 2560, stated, name, 1, 0, 0, 0, wide,
+                                 CUT_TO_ZERO + 1));
+    expect_bytes("image after refusals", expected, image, 2560);
 }
 
 /* Cut to 32 bits, the buffer would be of length 0. */
-static void long_enough(uint8_t *wide, const struct disc *disc)
+static void long_enough(uint8_t *wide, const uint8_t *image)
 {
     uint8_t name[1] = { 'A' };
-    tandos_listed listed =
-        tandos_list(disc->bytes, disc->length, wide, CUT_TO_ZERO);
-    tandos_reading reading = tandos_read(disc->bytes, disc->length, name, 1,
-                                         wide, CUT_TO_ZERO);
+    tandos_listed listed = tandos_list(image, 2560, stated, wide, CUT_TO_ZERO);
+    tandos_reading reading = tandos_read(image, 2560, stated, name, 1, wide,
+                                         CUT_TO_ZERO);
 
     EXPECT_NUMBER(0, listed.number);
     EXPECT_NUMBER(41, listed.length);
@@ -48,6 +50,7 @@ static void long_enough(uint8_t *wide, const struct disc *disc)
 void test_wide(void)
 {
     uint8_t *wide = calloc(CUT_TO_ZERO + 2560, 1);
+    uint8_t image[2560];
     struct disc disc;
 
     if (wide == NULL) {
@@ -55,11 +58,12 @@ void test_wide(void)
         return;
     }
     make_small(&disc);
+    arrange(image, disc.bytes, 2560, stated);
     /* A dot here spares a search for one through all of the memory. */
     wide[0] = 'A';
     wide[1] = '.';
-    too_long(wide, &disc);
-    long_enough(wide, &disc);
+    too_long(wide, image);
+    long_enough(wide, image);
     free(wide);
 }
 

@@ -15,6 +15,7 @@ void test_check(void);
 void test_view(void);
 void test_sizes(void);
 void test_order(void);
+void test_arrangement(void);
 void test_text(void);
 void test_wide(void);
 

@@ -6,7 +6,7 @@ import shutil
 import subprocess
 
 from cases_usage import COMMANDS
-from disc import Disc, USED_COUNT
+from disc import Disc, USED_COUNT, moved
 from support import (ROOT, REFUSALS, TANDOS, case, does, equal, holds, read, sheet_of,
                      tandos, write)
 
@@ -108,6 +108,25 @@ def _():
     holds(tandos("check", "a.img", "b.img").text, "sound")
 
 
+@case("examples/round.c: images in the moved arrangement")
+def _():
+    build_round()
+    expected = Disc.blank(40, "PIECES")
+    expected.save("OLD", sheet_of(300))
+    before = expected.data[:]
+    write("plain.img", before)
+    write("moved.img", moved(before))
+    write("sheet", b"new")
+    expected.save("NEW", b"new")
+    expected.delete("OLD")
+    status, text = go_round("--moved", "NEW", "sheet", "OLD", "moved.img",
+                            "plain.img")
+    equal(status, 1)
+    equal(read("moved.img"), moved(expected.data))
+    equal(read("plain.img"), before)
+    holds(text, "1 of 2 discs done.\n")
+
+
 @case("examples/round.c: a disc on which anything is refused stays as it was")
 def _():
     build_round()
@@ -185,10 +204,13 @@ def _():
     header = read(os.path.join(ROOT, "include", "tandos.h")).decode()
     header = re.sub(r"/\*.*?\*/", "", header, flags=re.DOTALL)
     calls = re.findall(r"\b(tandos_\w+)\(", header)
-    equal(len(calls), 13)
+    equal(len(calls), 14)
     for call in calls:
         holds(text, f".Nm {call}")
         holds(text, f".It Fn {call}\n")
+    refusals = re.search(r"enum tandos_refusal \{.*?\}", header, re.DOTALL)
     for name, number in re.findall(r"(TANDOS_\w+) = (\w+)", header):
-        is_refusal = "RECORD" not in name and "ATTRIBUTE" not in name
+        is_refusal = name in refusals.group(0)
         holds(text, f".It Dv {name} Pq {number}\n" if is_refusal else name)
+    for name in ("TANDOS_ON", "TANDOS_TEXT", "tandos_image"):
+        holds(text, name)

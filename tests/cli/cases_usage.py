@@ -4,16 +4,17 @@ from disc import Disc
 from support import case, does, equal, fails, holds, is_misuse, unchanged, write
 
 COMMANDS = {
-    "blank": "IMAGE TRACKS NAME [--force]",
-    "list": "IMAGE [--table | --json]",
-    "read": "IMAGE NAME [-o FILE | --info]",
-    "save": "IMAGE NAME FILE [--page N] [--start ADDR] [--transfer ADDR]",
-    "delete": "IMAGE NAME",
-    "rename": "IMAGE OLD NEW",
-    "protect": "IMAGE NAME on|off",
-    "check": "IMAGE..",
-    "view": "IMAGE TRACK/SECTOR",
-    "map": "IMAGE [--color=WHEN] [--svg FILE]",
+    "blank": "IMAGE TRACKS NAME [--force] [--moved]",
+    "list": "IMAGE [--table | --json] [--moved]",
+    "read": "IMAGE NAME [-o FILE | --info] [--moved]",
+    "save": "IMAGE NAME FILE [OPTION..]",
+    "delete": "IMAGE NAME [--moved]",
+    "rename": "IMAGE OLD NEW [--moved]",
+    "protect": "IMAGE NAME on|off [--moved]",
+    "check": "IMAGE.. [--moved]",
+    "view": "IMAGE TRACK/SECTOR [--moved]",
+    "map": "IMAGE [--color=WHEN] [--svg FILE] [--moved]",
+    "rearrange": "IMAGE --to moved|plain -o FILE",
 }
 
 
@@ -31,6 +32,7 @@ def _():
     for command, synopsis in COMMANDS.items():
         text = does(command, "--help").text
         holds(text, f"Usage: tandos {command} {synopsis}\n")
+        equal("--moved" in text, command != "rearrange", command)
         equal(does(command, "a", "b", "c", "d", "-h").text, text)
 
 
@@ -68,7 +70,8 @@ def _():
 
 
 def count(command):
-    return {"list": 1, "map": 1, "read": 2, "delete": 2, "view": 2}.get(command, 3)
+    return {"list": 1, "map": 1, "rearrange": 1, "read": 2, "delete": 2,
+            "view": 2}.get(command, 3)
 
 
 @case("misuse: numbers that are none, or out of 16 bits")
@@ -97,6 +100,8 @@ def _():
     is_misuse("exclude each other", "list", "--json", "--table", "a.img")
     is_misuse("exclude each other", "read", "--info", "-o", "x", "a.img", "A")
     is_misuse("no value goes with option '--json'", "list", "--json=1", "a.img")
+    is_misuse("no value goes with option '--moved'", "list", "--moved=1",
+              "a.img")
     is_misuse("'on' or 'off' is wanted, not 'maybe'", "protect", "a.img", "A",
               "maybe")
 

@@ -15,6 +15,15 @@ FREE_COUNT = 0x14
 USED_COUNT = 0x16
 
 
+def moved(data):
+    """The moved image of a plain one: the sectors of each track stand in the
+    order in which they pass."""
+    return b"".join(bytes(data[at:at + SECTOR])
+                    for track in range(0, len(data), TRACK)
+                    for at in (track + SECTOR * (sector - 1)
+                               for sector in PASSING_ORDER))
+
+
 def place(number):
     return f"{number // 10}/{number % 10 + 1}"
 
@@ -80,6 +89,8 @@ class Walk:
 
 
 class Disc:
+    """A disc by its plain image."""
+
     def __init__(self, data):
         self.data = bytearray(data)
         self.tracks = len(data) // TRACK

@@ -115,6 +115,7 @@ def is_refused(number, image, *arguments, **options):
                         f"{sentence}")
     equal(answer.error.count("\n"), 1, "lines")
     equal(answer.status, REFUSED, "status")
+    return answer
 
 
 def is_misuse(part, *arguments, **options):

@@ -50,41 +50,43 @@ static void take_image(struct image *image, struct lent *lent, uint32_t number,
     give_back(lent);
 }
 
-tandos_checked call_check(const struct lent *image)
+tandos_checked call_check(const struct lent *image, uint32_t arrangement)
 {
-    tandos_checked checked = tandos_check(image->bytes, image->length);
+    tandos_checked checked = tandos_check(image->bytes, image->length,
+                                          arrangement);
 
-    count_answer(CALL_CHECK, checked.number);
+    count_answer(CALL_CHECK, arrangement, checked.number);
     if (checked.number == TANDOS_DONE)
-        count_rule(checked.rule);
+        count_rule(arrangement, checked.rule);
     else
         REQUIRE_EQUAL(0, checked.rule, "rule of a refused check");
     return checked;
 }
 
-tandos_listed call_list(const struct lent *image, size_t buffer_length)
+tandos_listed call_list(const struct lent *image, uint32_t arrangement,
+                        size_t buffer_length)
 {
     struct lent buffer = lend_buffer(buffer_length);
-    tandos_listed listed = tandos_list(image->bytes, image->length,
+    tandos_listed listed = tandos_list(image->bytes, image->length, arrangement,
                                        buffer.bytes, buffer.length);
 
-    count_answer(CALL_LIST, listed.number);
+    count_answer(CALL_LIST, arrangement, listed.number);
     if (listed.number != TANDOS_DONE)
         REQUIRE_EQUAL(0, listed.length, "length of a refused list");
     take_buffer(&buffer, listed.length, "list writes beside its records");
     return listed;
 }
 
-tandos_reading call_read(const struct lent *image, struct text name,
-                         size_t buffer_length)
+tandos_reading call_read(const struct lent *image, uint32_t arrangement,
+                         struct text name, size_t buffer_length)
 {
     struct lent typed = lend_text(name);
     struct lent buffer = lend_buffer(buffer_length);
     tandos_reading reading =
-        tandos_read(image->bytes, image->length, typed.bytes, typed.length,
-                    buffer.bytes, buffer.length);
+        tandos_read(image->bytes, image->length, arrangement, typed.bytes,
+                    typed.length, buffer.bytes, buffer.length);
 
-    count_answer(CALL_READ, reading.number);
+    count_answer(CALL_READ, arrangement, reading.number);
     if (reading.number != TANDOS_DONE)
         REQUIRE((reading.page | reading.start | reading.end |
                  reading.transfer | reading.length) == 0,
@@ -94,20 +96,28 @@ tandos_reading call_read(const struct lent *image, struct text name,
     return reading;
 }
 
-uint32_t call_view(const struct lent *image, uint32_t track, uint32_t sector)
+struct viewed call_view(const struct lent *image, uint32_t arrangement,
+                        uint32_t track, uint32_t sector)
 {
-    uint32_t number = tandos_view_number(image->bytes, image->length, track,
-                                         sector);
-    const uint8_t *view = tandos_view(image->bytes, image->length, track,
-                                      sector);
+    struct viewed viewed;
+    uint32_t start = tandos_view_start(image->bytes, image->length,
+                                       arrangement, track, sector);
 
-    count_answer(CALL_VIEW, number);
-    if (number != TANDOS_DONE)
-        REQUIRE(view == NULL, "a refused view isn't empty");
-    else
-        REQUIRE(view == image->bytes + 256 * (10 * (size_t)track + sector - 1)
-                        + 2, "the view isn't where the sector's bytes lie");
-    return number;
+    viewed.number = tandos_view_number(image->bytes, image->length,
+                                       arrangement, track, sector);
+    viewed.bytes = tandos_view(image->bytes, image->length, arrangement, track,
+                               sector);
+    count_answer(CALL_VIEW, arrangement, viewed.number);
+    if (viewed.number != TANDOS_DONE) {
+        REQUIRE(viewed.bytes == NULL, "a refused view isn't empty");
+        REQUIRE_EQUAL(0, start, "start of a refused view");
+    } else {
+        REQUIRE_EQUAL(sector_start(arrangement, track, sector) +
+                      TANDOS_LINK_SIZE, start, "start of a view");
+        REQUIRE(viewed.bytes == image->bytes + start,
+                "the view isn't where the sector's bytes lie");
+    }
+    return viewed;
 }
 
 uint32_t call_save(struct image *image, struct text name,
@@ -117,11 +127,11 @@ uint32_t call_save(struct image *image, struct text name,
     struct lent typed = lend_text(name);
     struct lent sheet = lend_text(module->sheet);
     uint32_t number =
-        tandos_save(lent.bytes, lent.length, typed.bytes, typed.length,
-                    module->page, module->start, module->transfer,
-                    sheet.bytes, sheet.length);
+        tandos_save(lent.bytes, lent.length, image->arrangement, typed.bytes,
+                    typed.length, module->page, module->start,
+                    module->transfer, sheet.bytes, sheet.length);
 
-    count_answer(CALL_SAVE, number);
+    count_answer(CALL_SAVE, image->arrangement, number);
     take_image(image, &lent, number, "image after a refused save");
     give_back_kept(&typed, name.bytes, "save changes the name");
     give_back_kept(&sheet, module->sheet.bytes, "save changes the sheet");
@@ -132,10 +142,11 @@ uint32_t call_delete(struct image *image, struct text name)
 {
     struct lent lent = lend(image->bytes, image->length);
     struct lent typed = lend_text(name);
-    uint32_t number = tandos_delete(lent.bytes, lent.length, typed.bytes,
+    uint32_t number = tandos_delete(lent.bytes, lent.length,
+                                    image->arrangement, typed.bytes,
                                     typed.length);
 
-    count_answer(CALL_DELETE, number);
+    count_answer(CALL_DELETE, image->arrangement, number);
     take_image(image, &lent, number, "image after a refused delete");
     give_back_kept(&typed, name.bytes, "delete changes the name");
     return number;
@@ -148,10 +159,11 @@ uint32_t call_rename(struct image *image, struct text old_name,
     struct lent old_typed = lend_text(old_name);
     struct lent new_typed = lend_text(new_name);
     uint32_t number =
-        tandos_rename(lent.bytes, lent.length, old_typed.bytes,
-                      old_typed.length, new_typed.bytes, new_typed.length);
+        tandos_rename(lent.bytes, lent.length, image->arrangement,
+                      old_typed.bytes, old_typed.length, new_typed.bytes,
+                      new_typed.length);
 
-    count_answer(CALL_RENAME, number);
+    count_answer(CALL_RENAME, image->arrangement, number);
     take_image(image, &lent, number, "image after a refused rename");
     give_back_kept(&old_typed, old_name.bytes, "rename changes the old name");
     give_back_kept(&new_typed, new_name.bytes, "rename changes the new name");
@@ -162,10 +174,11 @@ uint32_t call_protect(struct image *image, struct text name, uint32_t on)
 {
     struct lent lent = lend(image->bytes, image->length);
     struct lent typed = lend_text(name);
-    uint32_t number = tandos_protect(lent.bytes, lent.length, typed.bytes,
+    uint32_t number = tandos_protect(lent.bytes, lent.length,
+                                     image->arrangement, typed.bytes,
                                      typed.length, on);
 
-    count_answer(CALL_PROTECT, number);
+    count_answer(CALL_PROTECT, image->arrangement, number);
     take_image(image, &lent, number, "image after a refused protect");
     give_back_kept(&typed, name.bytes, "protect changes the name");
     return number;
@@ -175,10 +188,11 @@ uint32_t call_blank(struct image *image, struct text name)
 {
     struct lent lent = lend(image->bytes, image->length);
     struct lent typed = lend_text(name);
-    uint32_t number = tandos_blank(lent.bytes, lent.length, typed.bytes,
+    uint32_t number = tandos_blank(lent.bytes, lent.length,
+                                   image->arrangement, typed.bytes,
                                    typed.length);
 
-    count_answer(CALL_BLANK, number);
+    count_answer(CALL_BLANK, image->arrangement, number);
     take_image(image, &lent, number, "image after a refused blank");
     give_back_kept(&typed, name.bytes, "blank changes the name");
     return number;

@@ -7,27 +7,26 @@
 #ifndef CALLS_H
 #define CALLS_H
 
+#include "image.h"
 #include "input.h"
 #include "lent.h"
-#include "tandos.h"
-
-/* One track more than any disc has, for images that are too long. */
-#define IMAGE_MOST TANDOS_IMAGE_SIZE(TANDOS_MAX_TRACKS + 1)
-
-struct image {
-    size_t length;
-    uint8_t bytes[IMAGE_MOST];
-};
 
 /* What a list or read left at the front of its buffer. */
 extern uint8_t answer[BUFFER_MOST];
 
+struct viewed {
+    uint32_t number;
+    const uint8_t *bytes; /* in the lent image; NULL with a refusal */
+};
+
 /* The image is lent for reading: whoever lent it expects it kept. */
-tandos_checked call_check(const struct lent *image);
-tandos_listed call_list(const struct lent *image, size_t buffer_length);
-tandos_reading call_read(const struct lent *image, struct text name,
-                         size_t buffer_length);
-uint32_t call_view(const struct lent *image, uint32_t track, uint32_t sector);
+tandos_checked call_check(const struct lent *image, uint32_t arrangement);
+tandos_listed call_list(const struct lent *image, uint32_t arrangement,
+                        size_t buffer_length);
+tandos_reading call_read(const struct lent *image, uint32_t arrangement,
+                         struct text name, size_t buffer_length);
+struct viewed call_view(const struct lent *image, uint32_t arrangement,
+                        uint32_t track, uint32_t sector);
 
 struct module {
     uint32_t page;

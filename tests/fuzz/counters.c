@@ -4,6 +4,7 @@
 #include <stdlib.h>
 
 #include "finding.h"
+#include "image.h"
 
 #define NUMBERS 12
 #define RULES 9
@@ -32,12 +33,23 @@ static const struct row rows[CALLS] = {
     [CALL_VIEW] = { "view", BIT(0) | BIT(1) | BIT(11) }
 };
 
+/* The calls by what is stated; those on twins by themselves. */
+enum table { TABLE_PLAIN, TABLE_MOVED, TABLE_WRONG, TABLE_TWIN, TABLES };
+
+static const char *const table_names[TABLES] = {
+    [TABLE_PLAIN] = "plain", [TABLE_MOVED] = "moved", [TABLE_WRONG] = "wrong",
+    [TABLE_TWIN] = "twin"
+};
+
+#define ANSWERS (TABLES * CALLS * NUMBERS)
+
 /* libFuzzer clears this section before each input and reads it after. */
 __attribute__((section("__libfuzzer_extra_counters")))
-static uint8_t features[CALLS * NUMBERS + RULES + 3 * SIZES];
+static uint8_t features[ANSWERS + TABLES * RULES + 3 * SIZES];
 
-static unsigned long answers[CALLS][NUMBERS];
-static unsigned long rules[RULES];
+static unsigned long answers[TABLES][CALLS][NUMBERS];
+static unsigned long rules[TABLES][RULES];
+static int is_on_twin;
 static size_t most_files, most_directory;
 static unsigned long full_discs;
 
@@ -59,24 +71,50 @@ static size_t size_class(size_t size)
     return class;
 }
 
-void count_answer(enum call call, uint32_t number)
+static enum table table_of(uint32_t arrangement)
 {
-    REQUIRE(number < NUMBERS, "a number that is no refusal");
-    REQUIRE(rows[call].numbers & BIT(number), "a number of another call");
-    answers[call][number]++;
-    mark(call * NUMBERS + number);
+    if (is_on_twin)
+        return TABLE_TWIN;
+    if (!is_arrangement(arrangement))
+        return TABLE_WRONG;
+    return arrangement == TANDOS_PLAIN ? TABLE_PLAIN : TABLE_MOVED;
 }
 
-void count_rule(uint32_t rule)
+/* What may be answered, and has to occur. */
+static unsigned numbers_of(enum table table, enum call call)
 {
+    return table == TABLE_WRONG ? BIT(TANDOS_SIZE) : rows[call].numbers;
+}
+
+void count_answer(enum call call, uint32_t arrangement, uint32_t number)
+{
+    enum table table = table_of(arrangement);
+
+    REQUIRE(number < NUMBERS, "a number that is no refusal");
+    REQUIRE(numbers_of(table, call) & BIT(number),
+            table == TABLE_WRONG ? "a wrong arrangement isn't refused"
+                                 : "a number of another call");
+    answers[table][call][number]++;
+    mark((table * CALLS + call) * NUMBERS + number);
+}
+
+void count_rule(uint32_t arrangement, uint32_t rule)
+{
+    enum table table = table_of(arrangement);
+
     REQUIRE(rule < RULES, "a rule that does not exist");
-    rules[rule]++;
-    mark(CALLS * NUMBERS + rule);
+    rules[table][rule]++;
+    mark(ANSWERS + table * RULES + rule);
+}
+
+void count_as_twin(int is_twin)
+{
+    is_on_twin = is_twin;
 }
 
 void count_disc(size_t files, size_t directory, size_t free_sectors)
 {
-    size_t first = CALLS * NUMBERS + RULES;
+    size_t first = ANSWERS + TABLES * RULES;
 
     mark(first + size_class(files));
     mark(first + SIZES + size_class(directory));
@@ -89,34 +127,45 @@ void count_disc(size_t files, size_t directory, size_t free_sectors)
         full_discs++;
 }
 
-static void print_row(enum call call)
+/* One row of counts, those that can't occur as '-'. */
+static void print_row(const char *name, enum table table,
+                      const unsigned long *counts, unsigned numbers)
 {
-    uint32_t number;
+    unsigned number;
 
-    printf("%-8s", rows[call].name);
+    printf("%-8s%-6s", name, table_names[table]);
     for (number = 0; number < NUMBERS; number++) {
-        if (rows[call].numbers & BIT(number))
-            printf("%11lu", answers[call][number]);
+        if (numbers & BIT(number))
+            printf("%11lu", counts[number]);
         else
             printf("%11s", "-");
     }
     putchar('\n');
 }
 
+static void print_table(enum table table)
+{
+    unsigned i;
+
+    for (i = 0; i < CALLS; i++)
+        print_row(rows[i].name, table, answers[table][i],
+                  numbers_of(table, (enum call)i));
+    /* 0 is a sound image. */
+    if (table != TABLE_WRONG)
+        print_row("rule", table, rules[table], BIT(RULES) - 1);
+}
+
 static void report(void)
 {
     unsigned i;
 
-    printf("%-8s", "answer");
+    printf("%-14s", "answer");
     for (i = 0; i < NUMBERS; i++)
         printf("%11u", i);
     putchar('\n');
-    for (i = 0; i < CALLS; i++)
-        print_row((enum call)i);
-    printf("check reports: sound %lu", rules[0]);
-    for (i = 1; i < RULES; i++)
-        printf(", rule %u %lu", i, rules[i]);
-    printf("\nsound discs: at most %zu files, at most %zu directory sectors; "
+    for (i = 0; i < TABLES; i++)
+        print_table((enum table)i);
+    printf("sound discs: at most %zu files, at most %zu directory sectors; "
            "without a free sector %lu\n", most_files, most_directory,
            full_discs);
 }

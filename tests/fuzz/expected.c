@@ -52,7 +52,7 @@ size_t need(const struct state *state, size_t sheet_length)
 
 uint32_t expected_list(const struct state *state, size_t buffer_length)
 {
-    if (!state->is_right_size)
+    if (!state->is_image)
         return TANDOS_SIZE;
     if (!state->is_sound)
         return TANDOS_UNSOUND;
@@ -69,7 +69,7 @@ static uint32_t expected_standing(const struct state *state, struct text name,
     uint8_t stored[TANDOS_NAME_SIZE];
 
     *file = NULL;
-    if (!state->is_right_size)
+    if (!state->is_image)
         return TANDOS_SIZE;
     if (!store_name(name, stored))
         return TANDOS_NAME;
@@ -98,7 +98,7 @@ uint32_t expected_save(const struct state *state, struct text name,
     uint8_t stored[TANDOS_NAME_SIZE];
     size_t length = module->sheet.length;
 
-    if (!state->is_right_size)
+    if (!state->is_image)
         return TANDOS_SIZE;
     if (!store_name(name, stored))
         return TANDOS_NAME;
@@ -128,7 +128,7 @@ uint32_t expected_rename(const struct state *state, struct text old_name,
     uint8_t stored[TANDOS_NAME_SIZE];
     uint32_t number;
 
-    if (state->is_right_size && !store_name(new_name, stored))
+    if (state->is_image && !store_name(new_name, stored))
         return TANDOS_NAME;
     number = expected_delete(state, old_name);
     if (number == TANDOS_DONE && find(state, stored) != NULL)
@@ -147,7 +147,7 @@ uint32_t expected_blank(const struct state *state, struct text name)
 {
     uint8_t stored[TANDOS_NAME_SIZE];
 
-    if (!state->is_right_size)
+    if (!state->is_image)
         return TANDOS_SIZE;
     return store_disc_name(name, stored) ? TANDOS_DONE : TANDOS_NAME;
 }
@@ -155,7 +155,7 @@ uint32_t expected_blank(const struct state *state, struct text name)
 uint32_t expected_view(const struct image *image, const struct state *state,
                        uint32_t track, uint32_t sector)
 {
-    if (!state->is_right_size)
+    if (!state->is_image)
         return TANDOS_SIZE;
     if (track >= image->length / TANDOS_TRACK_SIZE || sector < 1 || sector > 10)
         return TANDOS_NO_SECTOR;

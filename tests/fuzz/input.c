@@ -11,6 +11,12 @@ static const uint32_t sheet_lengths[SHEETS] = {
     [SHEET_20000] = 20000
 };
 
+/* The next ones, those that are 0 or 1 when cut to 8, 16 or 31 bits, and the
+ * last. */
+static const uint32_t wrong_arrangements[WRONG_ARRANGEMENTS] = {
+    2, 3, 256, 257, 65536, 65537, 0x80000000, UINT32_MAX
+};
+
 uint32_t take(struct input *input, unsigned byte_count)
 {
     uint32_t number = 0;
@@ -26,6 +32,16 @@ uint32_t take_number(struct input *input)
     uint32_t first = take(input, 1);
 
     return first == NUMBER_WIDE ? take(input, 4) : first;
+}
+
+uint32_t take_arrangement(struct input *input)
+{
+    uint32_t first = take(input, 1);
+
+    if (first == ARRANGEMENT_NUMBER)
+        return take_number(input);
+    return first < ARRANGEMENT_WRONG
+               ? first % 2 : wrong_arrangements[first % WRONG_ARRANGEMENTS];
 }
 
 void put_legal_name(struct name *name, unsigned which)

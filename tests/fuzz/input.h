@@ -1,7 +1,7 @@
 /*
- * The fuzzer's input, taken apart: one byte for the start, then commands, each
- * a byte and its arguments. Behind the end of the input stand zeros. seeds.c
- * writes the same form.
+ * The fuzzer's input, taken apart: one byte for the start, the arrangement and
+ * what the start takes, then commands, each a byte and its arguments. Behind
+ * the end of the input stand zeros. seeds.c writes the same form.
  */
 #ifndef INPUT_H
 #define INPUT_H
@@ -11,8 +11,9 @@
 
 /* The first byte of an input. */
 enum start {
-    START_BLANK, /* tracks (1): a blank disc */
-    START_BYTES, /* length (3), then all bytes of the input as the image */
+    START_BLANK, /* arrangement, tracks (1): a blank disc */
+    START_BYTES, /* arrangement, length (3), then all bytes of the input as the
+                    image */
     STARTS
 };
 
@@ -33,8 +34,16 @@ enum command {
     COMMAND_LINK,    /* sector number (2), track (1), sector (1) */
     COMMAND_BYTE,    /* sector number (2), byte (1), value (1) */
     COMMAND_RESIZE,  /* length (3): cuts or prolongs the image */
+    COMMAND_STATED,  /* arrangement, any command above: stated for it alone */
     COMMANDS
 };
+
+/* An arrangement begins with a byte: 0 or 1 by its lowest bit; from
+ * ARRANGEMENT_WRONG on one of the wrong numbers, by its remainder; last
+ * ARRANGEMENT_NUMBER. */
+#define ARRANGEMENT_WRONG 0xF0
+#define WRONG_ARRANGEMENTS 8
+#define ARRANGEMENT_NUMBER 0xFF /* then a number */
 
 /* A name begins with one of NAME_TYPED that are legal, or with its own
  * length. */
@@ -83,6 +92,7 @@ struct name {
 
 uint32_t take(struct input *input, unsigned byte_count);
 uint32_t take_number(struct input *input);
+uint32_t take_arrangement(struct input *input);
 void take_name(struct input *input, struct name *name);
 
 /* One of the legal names, by its number. */

@@ -36,8 +36,8 @@ static struct link pointer_at(const uint8_t *bytes)
 
 static const uint8_t *sector_at(const struct image *image, struct link link)
 {
-    return image->bytes + TANDOS_SECTOR_SIZE *
-           (TANDOS_SECTORS_PER_TRACK * link.track + link.sector - 1);
+    return image->bytes +
+           sector_start(image->arrangement, link.track, link.sector);
 }
 
 /* Marks the sectors of a chain up to its end link and gives its length. */
@@ -87,7 +87,9 @@ static size_t mark_files(const struct image *image, const uint8_t *directory)
 
 struct places places_of(const struct image *image)
 {
-    struct link link = pointer_at(image->bytes + 0x12);
+    const struct link system_link = { 0, 1 };
+    const uint8_t *system = sector_at(image, system_link);
+    struct link link = pointer_at(system + 0x12);
     struct places places;
 
     memset(is_met, 0, sizeof is_met);
@@ -95,6 +97,6 @@ struct places places_of(const struct image *image)
     places.directory = mark_chain(image, link);
     for (; link.sector != 0; link = link_at(sector_at(image, link)))
         places.files += mark_files(image, sector_at(image, link));
-    places.free = mark_chain(image, pointer_at(image->bytes + 0x10));
+    places.free = mark_chain(image, pointer_at(system + 0x10));
     return places;
 }

@@ -90,7 +90,8 @@ static void require_absent(const struct moment *moment, struct text name)
 {
     struct lent lent = lend(moment->image.bytes, moment->image.length);
 
-    REQUIRE_EQUAL(TANDOS_ABSENT, call_read(&lent, name, 0).number,
+    REQUIRE_EQUAL(TANDOS_ABSENT,
+                  call_read(&lent, moment->image.arrangement, name, 0).number,
                   "read of a name that no longer stands");
     give_back_kept(&lent, moment->image.bytes, "read changes the image");
 }
@@ -164,8 +165,7 @@ static void require_refused(const struct moment *moment, struct text name)
 
     other_name.bytes = other;
     other_name.length = sizeof other - 1;
-    copy.length = moment->image.length;
-    memcpy(copy.bytes, moment->image.bytes, copy.length);
+    copy_image(&copy, &moment->image);
     REQUIRE_EQUAL(TANDOS_PROTECTED, call_delete(&copy, name),
                   "delete of a protected file");
     REQUIRE_EQUAL(TANDOS_PROTECTED, call_rename(&copy, name, other_name),
@@ -201,6 +201,7 @@ static void require_same_from_elsewhere(const struct moment *before,
     size_t i;
 
     other.length = before->image.length;
+    other.arrangement = before->image.arrangement;
     for (i = 0; i < other.length; i++)
         other.bytes[i] = (uint8_t)~before->image.bytes[i];
     REQUIRE_EQUAL(TANDOS_DONE, call_blank(&other, name), "a second blank");

@@ -5,6 +5,7 @@
 #include "expected.h"
 #include "finding.h"
 #include "promises.h"
+#include "twins.h"
 
 /* More would slow each execution down and reach little that is new. */
 #define COMMANDS_MOST 100
@@ -24,8 +25,10 @@ static int is_state_known;
 
 static void know_state(void)
 {
-    if (!is_state_known)
-        look(&now->image, &now->state);
+    if (is_state_known)
+        return;
+    look(&now->image, &now->state);
+    twin_check(&now->image, now->state.checked);
     is_state_known = 1;
 }
 
@@ -33,8 +36,18 @@ static void know_state(void)
 static void begin_command(void)
 {
     know_state();
-    before->image.length = now->image.length;
-    memcpy(before->image.bytes, now->image.bytes, now->image.length);
+    copy_image(&before->image, &now->image);
+}
+
+/* What a command has done to the image, for its twin. */
+static struct change change_by(uint32_t number)
+{
+    struct change change;
+
+    change.before = &before->image;
+    change.after = &now->image;
+    change.number = number;
+    return change;
 }
 
 /* Looks at the image that an accepted command left. */
@@ -50,12 +63,13 @@ static void run_list(struct input *input)
     size_t files = now->state.file_count;
     size_t length = take_buffer_length(input, TANDOS_LIST_SIZE(files));
     struct lent lent = lend(now->image.bytes, now->image.length);
-    tandos_listed listed = call_list(&lent, length);
+    tandos_listed listed = call_list(&lent, now->image.arrangement, length);
 
     REQUIRE_EQUAL(expected_list(&now->state, length), listed.number, "list");
     if (listed.number == TANDOS_DONE)
         REQUIRE_EQUAL(TANDOS_LIST_SIZE(files), listed.length, "length of list");
     give_back_kept(&lent, now->image.bytes, "list changes the image");
+    twin_list(&now->image, listed, length);
 }
 
 static void run_read(struct input *input)
@@ -71,7 +85,7 @@ static void run_read(struct input *input)
     if (store_name(name.text, stored))
         file = find(&now->state, stored);
     length = take_buffer_length(input, file == NULL ? 0 : file->reading.length);
-    reading = call_read(&lent, name.text, length);
+    reading = call_read(&lent, now->image.arrangement, name.text, length);
     REQUIRE_EQUAL(expected_read(&now->state, name.text, length),
                   reading.number, "read");
     if (reading.number == TANDOS_DONE) {
@@ -81,6 +95,7 @@ static void run_read(struct input *input)
                 "a file's bytes differ with another buffer");
     }
     give_back_kept(&lent, now->image.bytes, "read changes the image");
+    twin_read(&now->image, &reading, name.text, length);
 }
 
 static void save(struct text name, const struct module *module)
@@ -88,6 +103,7 @@ static void save(struct text name, const struct module *module)
     uint32_t number = call_save(&now->image, name, module);
 
     REQUIRE_EQUAL(expected_save(&now->state, name, module), number, "save");
+    twin_save(change_by(number), name, module);
     if (number == TANDOS_DONE) {
         end_command();
         require_saved(before, now, name, module);
@@ -132,6 +148,7 @@ static void run_delete(struct input *input)
     take_name(input, &name);
     number = call_delete(&now->image, name.text);
     REQUIRE_EQUAL(expected_delete(&now->state, name.text), number, "delete");
+    twin_delete(change_by(number), name.text);
     if (number == TANDOS_DONE) {
         end_command();
         require_deleted(before, now, name.text);
@@ -148,6 +165,7 @@ static void run_rename(struct input *input)
     number = call_rename(&now->image, old_name.text, new_name.text);
     REQUIRE_EQUAL(expected_rename(&now->state, old_name.text, new_name.text),
                   number, "rename");
+    twin_rename(change_by(number), old_name.text, new_name.text);
     if (number == TANDOS_DONE) {
         end_command();
         require_renamed(before, now, old_name.text, new_name.text);
@@ -163,6 +181,7 @@ static void run_protect(struct input *input)
     on = take_number(input);
     number = call_protect(&now->image, name.text, on);
     REQUIRE_EQUAL(expected_protect(&now->state, name.text), number, "protect");
+    twin_protect(change_by(number), name.text, on);
     if (number == TANDOS_DONE) {
         end_command();
         require_protected(before, now, name.text, on);
@@ -177,6 +196,7 @@ static void run_blank(struct input *input)
     take_name(input, &name);
     number = call_blank(&now->image, name.text);
     REQUIRE_EQUAL(expected_blank(&now->state, name.text), number, "blank");
+    twin_blank(change_by(number), name.text);
     if (number == TANDOS_DONE) {
         end_command();
         require_blank(before, now, name.text);
@@ -188,9 +208,12 @@ static void run_view(struct input *input)
     uint32_t track = take_number(input);
     uint32_t sector = take_number(input);
     struct lent lent = lend(now->image.bytes, now->image.length);
+    struct viewed viewed = call_view(&lent, now->image.arrangement, track,
+                                     sector);
 
     REQUIRE_EQUAL(expected_view(&now->image, &now->state, track, sector),
-                  call_view(&lent, track, sector), "view");
+                  viewed.number, "view");
+    twin_view(&now->image, viewed, track, sector);
     give_back_kept(&lent, now->image.bytes, "view changes the image");
 }
 
@@ -204,11 +227,13 @@ static void run_text(struct input *input)
     REQUIRE(strlen(tandos_rule_text(number)) > 0, "text of a rule");
 }
 
-/* Changes bytes of one sector, as no command would. */
-static void change_sector(size_t sector, size_t byte, const uint8_t *values,
+/* Changes bytes of the sector of this number, as no command would. */
+static void change_sector(size_t number, size_t byte, const uint8_t *values,
                           size_t count)
 {
-    size_t at = sector * TANDOS_SECTOR_SIZE + byte;
+    size_t at = byte + sector_start(now->image.arrangement,
+                                    number / TANDOS_SECTORS_PER_TRACK,
+                                    number % TANDOS_SECTORS_PER_TRACK + 1);
 
     if (at + count <= now->image.length)
         memcpy(now->image.bytes + at, values, count);
@@ -287,10 +312,8 @@ static int run_call(enum command command, struct input *input)
     return 1;
 }
 
-static void run_command(struct input *input)
+static void run_command(enum command command, struct input *input)
 {
-    enum command command = (enum command)(take(input, 1) % COMMANDS);
-
     if (run_call(command, input))
         return;
     switch (command) {
@@ -315,6 +338,29 @@ static void run_command(struct input *input)
     }
 }
 
+/* One command with another arrangement than the run's, right or wrong. For this
+ * command the image is whatever it is as stated. */
+static void run_stated(struct input *input)
+{
+    uint32_t of_the_run = now->image.arrangement;
+
+    now->image.arrangement = take_arrangement(input);
+    is_state_known = 0;
+    run_command((enum command)(take(input, 1) % COMMAND_STATED), input);
+    now->image.arrangement = of_the_run;
+    is_state_known = 0;
+}
+
+static void run_next(struct input *input)
+{
+    enum command command = (enum command)(take(input, 1) % COMMANDS);
+
+    if (command == COMMAND_STATED)
+        run_stated(input);
+    else
+        run_command(command, input);
+}
+
 static void start_blank(struct input *input)
 {
     static const uint8_t name[] = "FUZZ";
@@ -327,7 +373,9 @@ static void start_blank(struct input *input)
     text.length = sizeof name - 1;
     now->image.length = TANDOS_IMAGE_SIZE(tracks);
     memset(now->image.bytes, 0x33, now->image.length);
-    REQUIRE_EQUAL(TANDOS_DONE, call_blank(&now->image, text), "a first blank");
+    REQUIRE_EQUAL(is_arrangement(now->image.arrangement) ? TANDOS_DONE
+                                                         : TANDOS_SIZE,
+                  call_blank(&now->image, text), "a first blank");
 }
 
 /* The input's bytes, again from the first where the image is longer. They are
@@ -345,16 +393,18 @@ static void start_bytes(struct input *input)
 
 void run_input(struct input *input)
 {
+    enum start start = (enum start)(take(input, 1) % STARTS);
     unsigned commands;
 
     is_state_known = 0;
-    if (take(input, 1) % STARTS == START_BLANK)
+    now->image.arrangement = take_arrangement(input);
+    if (start == START_BLANK)
         start_blank(input);
     else
         start_bytes(input);
     know_state();
     for (commands = 0; commands < COMMANDS_MOST && input->at < input->end;
          commands++)
-        run_command(input);
+        run_next(input);
     know_state();
 }

@@ -19,6 +19,7 @@
 static uint8_t seed[SEED_MOST];
 static size_t seed_length;
 static const char *folder;
+static int arrangement; /* of the seeds that are written now: 0 or 1 */
 
 /* Appends bytes, given as int, up to the first that is negative. */
 static void put(int byte, ...)
@@ -35,7 +36,7 @@ static void put(int byte, ...)
 static void begin(int tracks)
 {
     seed_length = 0;
-    put(START_BLANK, tracks, -1);
+    put(START_BLANK, arrangement, tracks, -1);
 }
 
 static void save(int name, enum sheet sheet)
@@ -52,7 +53,8 @@ static void end(const char *name)
 {
     char path[1024];
     FILE *file;
-    int length = snprintf(path, sizeof path, "%s/%s", folder, name);
+    int length = snprintf(path, sizeof path, "%s/%s-%s", folder,
+                          arrangement == 0 ? "plain" : "moved", name);
 
     file = length < (int)sizeof path ? fopen(path, "wb") : NULL;
     if (file == NULL || fwrite(seed, 1, seed_length, file) != seed_length ||
@@ -166,6 +168,21 @@ static void seed_large(void)
     end("pages");
 }
 
+/* The most tracks, the last of them far behind byte 65,535; then one more. */
+static void seed_most_tracks(void)
+{
+    begin(0);
+    put(COMMAND_RESIZE, 0x00, 0x20, 0x03, COMMAND_BLANK, 0, -1);
+    save(0, SHEET_1);
+    put(COMMAND_VIEW, 79, 10, COMMAND_VIEW, 79, 2, COMMAND_VIEW, 80, 1, -1);
+    put(COMMAND_RESIZE, 0x00, 0x2A, 0x03, COMMAND_CHECK, -1);
+    put(COMMAND_LIST, BUFFER_LARGEST, COMMAND_READ, 0, BUFFER_LARGEST, -1);
+    put(COMMAND_VIEW, 0, 1, COMMAND_RENAME, 0, 1, COMMAND_PROTECT, 0, 1, -1);
+    put(COMMAND_DELETE, 0, COMMAND_BLANK, 0, -1);
+    save(3, SHEET_1);
+    end("most-tracks");
+}
+
 /* Numbers that are right once they are cut to 8 or 16 bits. */
 static void seed_wide_numbers(void)
 {
@@ -260,9 +277,101 @@ static void seed_unusual(void)
     put(COMMAND_RESIZE, 0, 0x2A, 3, COMMAND_CHECK, -1);
     end("sizes");
     seed_length = 0;
-    put(START_BYTES, 0x00, 0x0A, 0x00, COMMAND_CHECK, COMMAND_LIST, 4, -1);
+    put(START_BYTES, arrangement, 0x00, 0x0A, 0x00, -1);
+    put(COMMAND_CHECK, COMMAND_LIST, BUFFER_LARGEST, -1);
     put(COMMAND_BLANK, 0, COMMAND_READ, 0, 0, COMMAND_DELETE, 0, -1);
     end("bytes");
+}
+
+/* Each call with this arrangement stated and arguments that are right. */
+static void put_stated(int stated)
+{
+    put(COMMAND_STATED, stated, COMMAND_CHECK, -1);
+    put(COMMAND_STATED, stated, COMMAND_LIST, BUFFER_LARGEST, -1);
+    put(COMMAND_STATED, stated, COMMAND_READ, 0, BUFFER_LARGEST, -1);
+    put(COMMAND_STATED, stated, COMMAND_VIEW, 0, 2, -1);
+    put(COMMAND_STATED, stated, -1);
+    save(1, SHEET_1);
+    put(COMMAND_STATED, stated, COMMAND_RENAME, 0, 2, -1);
+    put(COMMAND_STATED, stated, COMMAND_PROTECT, 0, 1, -1);
+    put(COMMAND_STATED, stated, COMMAND_DELETE, 0, -1);
+    put(COMMAND_STATED, stated, COMMAND_BLANK, 0, -1);
+}
+
+/* The same with arguments for which a later refusal holds as well. */
+static void put_stated_refused(int stated)
+{
+    put(COMMAND_STATED, stated, COMMAND_LIST, BUFFER_EMPTY, -1);
+    put(COMMAND_STATED, stated, COMMAND_READ, NAME_NULL, BUFFER_EMPTY, -1);
+    put(COMMAND_STATED, stated, COMMAND_VIEW, 0, 11, -1);
+    put(COMMAND_STATED, stated, -1);
+    save(NAME_NULL, SHEET_0);
+    put(COMMAND_STATED, stated, COMMAND_RENAME, 0, NAME_NULL, -1);
+    put(COMMAND_STATED, stated, COMMAND_PROTECT, NAME_NULL, 1, -1);
+    put(COMMAND_STATED, stated, COMMAND_DELETE, NAME_NULL, -1);
+    put(COMMAND_STATED, stated, COMMAND_BLANK, NAME_NULL, -1);
+}
+
+/* Single calls stated otherwise than the run. */
+static void seed_stated(void)
+{
+    char name[16];
+    int i;
+
+    for (i = 0; i < WRONG_ARRANGEMENTS; i++) {
+        begin(0);
+        save(0, SHEET_246);
+        put_stated(ARRANGEMENT_WRONG + i);
+        put_stated_refused(ARRANGEMENT_WRONG + i);
+        snprintf(name, sizeof name, "wrong-%d", i);
+        end(name);
+    }
+    begin(0);
+    save(0, SHEET_246);
+    put_stated(1 - arrangement);
+    put_stated_refused(1 - arrangement);
+    end("stated-otherwise");
+}
+
+/* Every sector of two tracks shown, so that each has to be in its place. */
+static void seed_views(void)
+{
+    int track, sector;
+
+    begin(1);
+    save(0, SHEET_2016);
+    save(1, SHEET_2016);
+    for (track = 0; track < 2; track++)
+        for (sector = 1; sector <= 10; sector++)
+            put(COMMAND_VIEW, track, sector, -1);
+    end("views");
+}
+
+static void write_seeds(void)
+{
+    seed_commands();
+    seed_refusals();
+    seed_full();
+    seed_directory();
+    seed_no_room_for_directory();
+    seed_large();
+    seed_most_tracks();
+    seed_wide_numbers();
+    seed_names();
+    seed_rules();
+    seed_unusual();
+    seed_stated();
+    seed_views();
+}
+
+/* A run that states a wrong arrangement from its start on. */
+static void seed_wrong_run(void)
+{
+    seed_length = 0;
+    put(START_BLANK, ARRANGEMENT_WRONG, 0, -1);
+    save(0, SHEET_1);
+    put(COMMAND_BLANK, 0, COMMAND_CHECK, COMMAND_LIST, BUFFER_LARGEST, -1);
+    end("wrong-run");
 }
 
 int main(int argc, char **argv)
@@ -272,15 +381,9 @@ int main(int argc, char **argv)
         return EXIT_FAILURE;
     }
     folder = argv[1];
-    seed_commands();
-    seed_refusals();
-    seed_full();
-    seed_directory();
-    seed_no_room_for_directory();
-    seed_large();
-    seed_wide_numbers();
-    seed_names();
-    seed_rules();
-    seed_unusual();
+    for (arrangement = 0; arrangement <= 1; arrangement++)
+        write_seeds();
+    arrangement = 0;
+    seed_wrong_run();
     return EXIT_SUCCESS;
 }

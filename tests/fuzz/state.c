@@ -68,9 +68,10 @@ static void take_file_record(struct file *file, const uint8_t *record)
             file->attribute == TANDOS_ATTRIBUTE_PROTECTED, "attribute");
 }
 
-static void take_list(struct state *state, const struct lent *lent)
+static void take_list(struct state *state, const struct lent *lent,
+                      uint32_t arrangement)
 {
-    tandos_listed listed = call_list(lent, TANDOS_LIST_MAX);
+    tandos_listed listed = call_list(lent, arrangement, TANDOS_LIST_MAX);
     size_t frame = TANDOS_LIST_SIZE(0);
     size_t i;
 
@@ -86,14 +87,15 @@ static void take_list(struct state *state, const struct lent *lent)
     REQUIRE_EQUAL(TANDOS_RECORD_END, answer[listed.length - 1], "end of list");
 }
 
-static void take_reading(struct file *file, const struct lent *lent)
+static void take_reading(struct file *file, const struct lent *lent,
+                         uint32_t arrangement)
 {
     size_t room = 245 + 253 * (file->sectors - 1);
     struct name name;
     tandos_reading reading;
 
     type_name(file->name, &name);
-    reading = call_read(lent, name.text,
+    reading = call_read(lent, arrangement, name.text,
                         room < TANDOS_SHEET_MAX ? room : TANDOS_SHEET_MAX);
     file->reading = reading;
     file->hash = hash_of(answer, reading.length);
@@ -128,24 +130,32 @@ static void require_sums(struct state *state, const struct image *image)
     state->directory_sectors = places.directory;
 }
 
+static void take_check(struct state *state, const struct image *image,
+                       const struct lent *lent)
+{
+    size_t tracks = image->length / TANDOS_TRACK_SIZE;
+
+    state->is_image = image->length % TANDOS_TRACK_SIZE == 0 && tracks >= 1 &&
+                      tracks <= TANDOS_MAX_TRACKS &&
+                      is_arrangement(image->arrangement);
+    state->checked = call_check(lent, image->arrangement);
+    REQUIRE_EQUAL(state->is_image ? TANDOS_DONE : TANDOS_SIZE,
+                  state->checked.number, "number of a check");
+    state->is_sound = state->is_image && state->checked.rule == 0;
+}
+
 void look(const struct image *image, struct state *state)
 {
     struct lent lent = lend(image->bytes, image->length);
-    tandos_checked checked = call_check(&lent);
-    size_t tracks = image->length / TANDOS_TRACK_SIZE;
     size_t i;
 
-    state->is_right_size = image->length % TANDOS_TRACK_SIZE == 0 &&
-                           tracks >= 1 && tracks <= TANDOS_MAX_TRACKS;
-    REQUIRE_EQUAL(state->is_right_size ? TANDOS_DONE : TANDOS_SIZE,
-                  checked.number, "number of a check");
-    state->is_sound = checked.number == TANDOS_DONE && checked.rule == 0;
+    take_check(state, image, &lent);
     state->file_count = 0;
     if (state->is_sound) {
-        take_list(state, &lent);
+        take_list(state, &lent, image->arrangement);
         require_sums(state, image);
         for (i = 0; i < state->file_count; i++)
-            take_reading(&state->files[i], &lent);
+            take_reading(&state->files[i], &lent, image->arrangement);
         count_disc(state->file_count, state->directory_sectors,
                    state->free_sectors);
     }

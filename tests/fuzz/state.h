@@ -15,8 +15,9 @@ struct file {
 };
 
 struct state {
-    int is_right_size;
+    int is_image; /* length and arrangement are right: nothing answers 1 */
     int is_sound;
+    tandos_checked checked;
     /* The rest is said of sound images alone. */
     uint8_t disc_name[TANDOS_NAME_SIZE];
     size_t free_sectors, used_sectors, directory_sectors;

@@ -8,7 +8,7 @@ use lib.ListN.{length, replicate}
 use lib.Seq.{sets}
 use Rattle.format.specs.Refusals.{SIZE, refused, ok, _>>=_, _orRefuse_, number, valueOr}
 use Rattle.format.specs.Lists.{word}
-use Rattle.format.specs.Geometry.{Geometry, ten, geometry, sectors, go, flat}
+use Rattle.format.specs.Geometry.{Format, Geometry, geometry, sectors, go, flat}
 use Rattle.format.specs.Names.{discName}
 use Rattle.format.specs.Layout.{freePlace, freeCountPlace, discNamePlace, versionPlace, pairBytes}
 use Rattle.format.specs.Effects.{headOf, version, blankDirectory, blankFree, blankSystem, blankDisc}
@@ -22,16 +22,16 @@ system-is G nine s pairs n zeros ps many =
     ap₂ (λ (s pairs : List ℕ). sets (sets (sets (sets s freePlace pairs) freeCountPlace (word (n - 2) ++ word 0)) discNamePlace nine) versionPlace version) zeros ps
     ∙ ap (λ (n : ℕ). sets (sets (sets (sets (replicate 256 0) freePlace (pairBytes G (headOf (blankFree G)) ++ pairBytes G (go (blankDirectory G)))) freeCountPlace (word (n - 2) ++ word 0)) discNamePlace nine) versionPlace version) many
 
-module _ (image name : List ℕ) where
-  pub blank-size : geometry ten (length image) ≡ refused SIZE → afterBlank ten image name ≡ answered 1 image
+module _ (F : Format) (image name : List ℕ) where
+  pub blank-size : geometry F (length image) ≡ refused SIZE → afterBlank F image name ≡ answered 1 image
   unfolding afterBlank answerBy blank _>>=_ number valueOr
   blank-size e = rw e
 
-  module _ (G : Geometry) (e : geometry ten (length image) ≡ ok G) where
-    pub blank-name : discName name ≡ none → afterBlank ten image name ≡ answered 2 image
+  module _ (G : Geometry) (e : geometry F (length image) ≡ ok G) where
+    pub blank-name : discName name ≡ none → afterBlank F image name ≡ answered 2 image
     unfolding afterBlank answerBy blank _>>=_ _orRefuse_ number valueOr
     blank-name n = rw (e, n)
 
-    pub blank-done : (nine : List ℕ) → discName name ≡ some nine → afterBlank ten image name ≡ answered 0 (flat G (blankDisc G nine))
+    pub blank-done : (nine : List ℕ) → discName name ≡ some nine → afterBlank F image name ≡ answered 0 (flat F G (blankDisc G nine))
     unfolding afterBlank answerBy blank _>>=_ _orRefuse_ number valueOr
     blank-done nine n = rw (e, n)

@@ -1,35 +1,26 @@
 -- The links of a blank disc's free chain, one after the other, as the loop that writes them meets them.
 -- Assumes nothing.
-use mathlib.Core.Path.{_≡_, refl, sym, ap, ap₂, subst, _∙_}
+use mathlib.Core.Path.{_≡_, sym, ap, ap₂, subst, _∙_}
 use Prim.Native.Nat.{ℕ, zero, suc, _+_, _*_, _/_, _%_, _-_, _≤_, _<_}
 use native.Mathlib.Omega.{arith}
 use native.Mathlib.Numerals.{add-one}
-use native.Mathlib.Nat.{mod-lt}
-use mathlib.Core.Bool.{true, not, _&&_, false≢true}
+use native.Mathlib.Nat.{mod-lt, mul-suc, mul-le-mul-left, mul-add-div, div-eq-of-lt, div-add-mod}
+use mathlib.Core.Bool.{true, not, false≢true}
 use mathlib.Core.List.{List, [], _∷_, _++_}
 use lib.ListN.{length, getD, drop, replicate, length-drop, drop-of-length-le}
 use lib.Seq.{drop-cons, getD-drop}
-use lib.Dec.{leb}
-use borrow.Author.Tests.{leb-true}
 use Rattle.format.specs.Lists.{elem}
-use Rattle.format.specs.ListLaws.{All, and-true, all-true, all-getD, filter-all}
-use Rattle.format.specs.Geometry.{ten, tracked, sectors, sectorNumber, onDisc, stop, go, Write}
-use Rattle.format.specs.GeometryLaws.{on-disc, track-range}
-use Rattle.format.specs.Layout.{linkBytes}
+use Rattle.format.specs.ListLaws.{All, all-getD, filter-all}
+use Rattle.format.specs.Geometry.{ten, tracked, sectors, sectorNumber, onDisc, stop, go, Write, written}
+use Rattle.format.specs.GeometryLaws.{on-disc, track-range, track-back, sector-back}
+use Rattle.format.specs.Layout.{linkBytes, trackByte, sectorByte}
 use Rattle.format.specs.Effects.{headOf, chained, passing, blankDirectory, blankFree}
-use Rattle.disc.specs.Meaning.{geo, Valid}
-use Rattle.disc.specs.Laws.{number-on}
+use Rattle.disc.specs.Meaning.{geo, sectorsOf, Valid}
+use Rattle.disc.specs.Laws.{order-range, number-on}
 use Rattle.disc.specs.declared.Geometry.{Geometry}
-use Rattle.blank.specs.Meaning.{Ten}
+use Rattle.disc.specs.declared.Place.{Place}
+use Rattle.blank.specs.Meaning.{Ten, Passed, Bare}
 use Rattle.blank.specs.Passing.{passing-at, passing-long, blank-free}
-
--- every sector of the passing order is one of a track's
-order-range : (j : ℕ) → j < ten .perTrack → (1 ≤ getD (ten .order) j 0) × (getD (ten .order) j 0 ≤ ten .perTrack)
-unfolding ten
-order-range j h =
-    let all-in = all-true {p = λ s. leb 1 s && leb s 10} (ten .order) refl in
-    let w = and-true (leb 1 (getD (ten .order) j 0)) (leb (getD (ten .order) j 0) 10) (all-getD {P = λ s. leb 1 s && leb s 10 ≡ true} j 0 all-in h) in
-    (leb-true _ _ (w .0), leb-true _ _ (w .1))
 
 module _ {g : Geometry} (v : Valid g) (t : Ten g) where
   ten-is : geo g ≡ tracked ten (g .tracks)
@@ -67,6 +58,49 @@ module _ {g : Geometry} (v : Valid g) (t : Ten g) where
 
   pub next-end : (k : ℕ) → g .sectors ≤ k → headOf (drop k (passing (geo g))) ≡ stop
   next-end k h = let past : length (passing (geo g)) ≤ k = omega (arith, passing-as-long) in ap headOf (drop-of-length-le (passing (geo g)) past)
+
+  -- ---- place i of a track
+
+  pub next-track : (track : ℕ) → geo g .perTrack * (track + 1) ≡ geo g .perTrack * track + geo g .perTrack
+  next-track track = ap (λ (q : ℕ). geo g .perTrack * q) (add-one track) ∙ omega (arith, mul-suc (geo g .perTrack) track)
+
+  module _ (track i : ℕ) (on : track < g .tracks) (h : i < geo g .perTrack) where
+    pub track-inside : geo g .perTrack * track + i < g .sectors
+    track-inside = omega (arith, v .total, mul-le-mul-left (geo g .perTrack) on, mul-suc (geo g .perTrack) track)
+
+    pub track-of : (geo g .perTrack * track + i) / geo g .perTrack ≡ track
+    track-of = mul-add-div (v .some-on-track) track i ∙ ap (λ (q : ℕ). track + q) (div-eq-of-lt h) ∙ omega arith
+
+    pub place-of-track : (geo g .perTrack * track + i) % geo g .perTrack ≡ i
+    place-of-track =
+        let e : geo g .perTrack * ((geo g .perTrack * track + i) / geo g .perTrack) ≡ geo g .perTrack * track = ap (λ (q : ℕ). geo g .perTrack * q) track-of in
+        omega (arith, div-add-mod (geo g .perTrack * track + i) (geo g .perTrack))
+
+  -- ---- its track and sector, as bytes
+
+  passed-track : (k : ℕ) → k < g .sectors → trackByte (geo g) (headOf (drop k (passing (geo g)))) ≡ k / geo g .perTrack
+  passed-track k h =
+      let w = order-range (k % geo g .perTrack) (omega (arith, mod-lt k (v .some-on-track), t)) in
+      ap (trackByte (geo g)) (next-go k h ∙ ap go (place-is k h)) ∙ track-back (geo g) (v .some-on-track) _ _ (w .0) (omega (arith, w .1, t))
+
+  passed-sector : (k : ℕ) → k < g .sectors → sectorByte (geo g) (headOf (drop k (passing (geo g)))) ≡ getD (ten .order) (k % geo g .perTrack) 0
+  passed-sector k h =
+      let w = order-range (k % geo g .perTrack) (omega (arith, mod-lt k (v .some-on-track), t)) in
+      ap (sectorByte (geo g)) (next-go k h ∙ ap go (place-is k h)) ∙ sector-back (geo g) (v .some-on-track) _ _ (w .0) (omega (arith, w .1, t))
+
+  pub passed-here : (k : ℕ) → k < g .sectors → (r : Place)
+      → r .track ≡ k / geo g .perTrack → r .sector ≡ getD (ten .order) (k % geo g .perTrack) 0 → Passed g k r
+  passed-here k h r e f = record { track-is = e ∙ sym (passed-track k h); sector-is = f ∙ sym (passed-sector k h) }
+
+  pub passed-none : (k : ℕ) → g .sectors ≤ k → (r : Place) → r .track ≡ 0 → r .sector ≡ 0 → Passed g k r
+  passed-none k h r e f = record { track-is = e ∙ sym (ap (trackByte (geo g)) (next-end k h)); sector-is = f ∙ sym (ap (sectorByte (geo g)) (next-end k h)) }
+
+  module _ {k : ℕ} (h : k < g .sectors) {r : Place} (p : Passed g k r) where
+    pub passed-on : onDisc (geo g) (r .track) (r .sector) ≡ true
+    passed-on = ap₂ (onDisc (geo g)) (p .track-is ∙ passed-track k h) (p .sector-is ∙ passed-sector k h) ∙ place-on k h
+
+    pub passed-number : sectorNumber (geo g) (r .track) (r .sector) ≡ getD (passing (geo g)) k 0
+    passed-number = ap₂ (sectorNumber (geo g)) (p .track-is ∙ passed-track k h) (p .sector-is ∙ passed-sector k h) ∙ sym (place-is k h)
 
   -- ---- the writes from place k on
 
@@ -110,3 +144,8 @@ module _ {g : Geometry} (v : Valid g) (t : Ten g) where
       not-system : (n : ℕ) → not (elem n (0 ∷ blankDirectory (geo g) ∷ [])) ≡ true → 0 < n
       not-system zero h = absurd (false≢true h)
       not-system (suc n) h = omega arith
+
+-- the links of places k to m are written: those from m on, written now, give what those from k on gave before
+pub record Linked (g : Geometry) (k m : ℕ) (before after : List ℕ) : Type 0 where
+  pub bare : Bare (sectorsOf g after)
+  pub links : (v : Valid g) (t : Ten g) → written (linksFrom v t m) (sectorsOf g after) ≡ written (linksFrom v t k) (sectorsOf g before)

@@ -2,20 +2,22 @@
 -- Assumes nothing.
 use mathlib.Core.Path.{_≡_}
 use Prim.Native.Nat.{ℕ, _<_}
-use lib.ListN.{length, getD, replicate}
+use lib.ListN.{length, drop, replicate}
 use Rattle.format.specs.Geometry.{ten, Disc, sector}
-use Rattle.format.specs.Effects.{body, passing}
+use Rattle.format.specs.Layout.{trackByte, sectorByte}
+use Rattle.format.specs.Effects.{body, headOf, passing}
 use Rattle.disc.specs.Meaning.{geo}
 use Rattle.disc.specs.declared.Geometry.{Geometry}
-use Rattle.disc.specs.declared.SectorNo.{SectorNo}
+use Rattle.disc.specs.declared.Place.{Place}
 
 -- as many sectors a track as the passing order has
 abbrev pub Ten : Geometry → Type 0
 Ten g = geo g .perTrack ≡ ten .perTrack
 
-pub record Passed (g : Geometry) (k : ℕ) (n : SectorNo) : Type 0 where
-  pub is : n .0 ≡ getD (passing (geo g)) k 0
-  pub inside : n .0 < g .sectors
+-- track and sector byte of what stands at place k of the passing order: of a sector, or zeros after the last
+pub record Passed (g : Geometry) (k : ℕ) (r : Place) : Type 0 where
+  pub track-is : r .track ≡ trackByte (geo g) (headOf (drop k (passing (geo g))))
+  pub sector-is : r .sector ≡ sectorByte (geo g) (headOf (drop k (passing (geo g))))
 
 -- every sector but 0/1 has zeros after its link
 pub record Bare (d : Disc) : Type 0 where

@@ -7,9 +7,10 @@ use native.Mathlib.Decide.{ℕ-discrete}
 use native.Mathlib.Numerals.{add-one}
 use mathlib.Core.List.{List, [], _∷_, _++_}
 use lib.ListN.{length, set, take, drop, replicate, replicate-append-replicate, getD-replicate, length-set, length-replicate}
-use lib.Seq.{sets, sets-eq, take-suc-set, take-at, drop-at}
-use Rattle.format.specs.Geometry.{Geometry, sectors, Disc, sector, chunks, cut}
-use Rattle.format.specs.GeometryLaws.{sector-other, sector-same}
+use lib.Seq.{sets, sets-eq, take-suc-set, take-at, drop-at, ext-getD}
+use Rattle.format.specs.Geometry.{Format, Geometry, sectors, placeOf, Disc, sector, chunks, reordered, cut}
+use Rattle.format.specs.Arrangements.{Arranged, reordered-long, reordered-at}
+use Rattle.format.specs.GeometryLaws.{place-below, sector-other, sector-same}
 use Rattle.format.specs.Layout.{linkPlace}
 use Rattle.format.specs.Effects.{body}
 use Rattle.blank.specs.Meaning.{Bare}
@@ -33,9 +34,20 @@ chunks-zeros (suc n) =
     (ap (drop 256) split ∙ drop-at (zeros 256) (zeros (256 * n)) 256 refl)
     ∙ ap (λ (d : Disc). replicate 256 0 ∷ d) (chunks-zeros n)
 
-pub cut-zeros : (G : Geometry) (n : ℕ) → n ≡ 256 * sectors G → cut G (replicate n 0) ≡ replicate (sectors G) (replicate 256 0)
+-- the same sectors in any order
+reordered-same : (f : ℕ → ℕ) (N : ℕ) (s : List ℕ) → ((n : ℕ) → n < N → f n < N) → reordered f N (replicate N s) ≡ replicate N s
+reordered-same f N s below = ext-getD [] (reordered f N (replicate N s)) (replicate N s) (reordered-long f N (replicate N s) ∙ sym (length-replicate N s)) same
+  where
+    same : (n : ℕ) → n < length (reordered f N (replicate N s)) → sector (reordered f N (replicate N s)) n ≡ sector (replicate N s) n
+    same n h =
+        let on : n < N = omega (arith, reordered-long f N (replicate N s)) in
+        reordered-at f N (replicate N s) n on ∙ getD-replicate N (f n) s [] (below n on) ∙ sym (getD-replicate N n s [] on)
+
+pub cut-zeros : (F : Format) (G : Geometry) → Arranged F G → (n : ℕ) → n ≡ 256 * sectors G → cut F G (replicate n 0) ≡ replicate (sectors G) (replicate 256 0)
 unfolding cut
-cut-zeros G n e = ap (λ (k : ℕ). chunks (sectors G) (replicate k 0)) e ∙ chunks-zeros (sectors G)
+cut-zeros F G a n e =
+    ap (reordered (placeOf F G) (sectors G)) (ap (λ (k : ℕ). chunks (sectors G) (replicate k 0)) e ∙ chunks-zeros (sectors G))
+    ∙ reordered-same (placeOf F G) (sectors G) (replicate 256 0) (place-below F G a)
 
 -- ---- links written into sectors of zeros
 

@@ -1,43 +1,51 @@
 // The blank disc.
 use disc::Geometry;
 use disc::Link;
+use disc::Place;
 use disc::SectorNo;
 use disc::Sized;
+use disc::Stated;
 use names::Name;
 ghost use mathlib.Core.Path.{_≡_};
-ghost use Prim.Native.Nat.{_+_, _-_, _<_};
+ghost use Prim.Native.Nat.{_+_, _*_, _-_, _≤_, _<_};
 ghost use mathlib.Core.List.{_++_};
 ghost use lib.ListN.{length, getD, set, drop, replicate};
-ghost use Rattle.format.specs.Geometry.{ten, sectors, go, sector, written};
+ghost use Rattle.format.specs.Geometry.{sectors, go, sector, written};
 ghost use Rattle.format.specs.Layout.{linkBytes, pairBytes};
 ghost use Rattle.format.specs.Effects.{body, headOf, passing, chained, blankDirectory, blankFree, blankSystem, blankDisc};
 ghost use Rattle.format.specs.Calls.{answered, afterBlank};
-ghost use Rattle.disc.specs.Meaning.{geo, meaning, sectorsOf, Valid, Inside, Image};
+ghost use Rattle.disc.specs.Meaning.{kindOf, geo, sectorsOf, Valid, Image};
 ghost use Rattle.blank.specs.Meaning.{Ten, Passed, Bare};
+ghost use Rattle.blank.specs.Links.{Linked};
 
 // 0/1 and 0/4, which the chain passes first, are taken.
 const TAKEN: usize = 2;
 
 const SYSTEM: SectorNo = SectorNo(0);
 
-// The sector at place k of the order in which the chain passes them.
-fn passed(g: Geometry, k: usize) -> SectorNo
-    requires { ⌜ Valid g × Ten g × (k < g .sectors) ⌝ }
-    ensures { λ r. ⌜ Passed g k r ⌝ }
+// Track and sector at place i of a track, in the order in which the chain passes them.
+fn passed(g: Geometry, track: usize, i: usize) -> Place
+    requires { ⌜ Valid g × Ten g × (track < g .tracks) × (i < geo g .perTrack) ⌝ }
+    ensures { λ r. ⌜ Passed g (geo g .perTrack * track + i) r ⌝ }
 {
-    let sector = disc::order_at(k % g.per_track);
-    disc::number_of(g, k / g.per_track, sector as usize)
+    Place {
+        track: track as u8,
+        sector: disc::order_at(i),
+    }
 }
 
-// Where the sector at place k is linked to.
-fn next_of(g: Geometry, k: usize) -> Link
-    requires { ⌜ Valid g × Ten g × (k < g .sectors) ⌝ }
-    ensures { λ r. ⌜ (meaning r ≡ headOf (drop (k + 1) (passing (geo g)))) × Inside g r ⌝ }
+// What the chain passes next: on the same track, on the next one, or nothing.
+fn passed_next(g: Geometry, track: usize, i: usize) -> Place
+    requires { ⌜ Valid g × Ten g × (track < g .tracks) × (i < geo g .perTrack) ⌝ }
+    ensures { λ r. ⌜ Passed g (geo g .perTrack * track + i + 1) r ⌝ }
 {
-    if k + 1 < g.sectors {
-        return Link::To(passed(g, k + 1));
+    if i + 1 < g.per_track {
+        return passed(g, track, i + 1);
     }
-    Link::End
+    if track + 1 < g.tracks {
+        return passed(g, track + 1, 0);
+    }
+    disc::NOWHERE
 }
 
 fn clear(image: &mut [u8])
@@ -50,13 +58,39 @@ fn clear(image: &mut [u8])
     }
 }
 
-// Writes the link of the sector at place k, which has zeros after it.
-fn put_passed(image: &mut [u8], g: Geometry, k: usize)
-    requires { ⌜ Image g (now image) × Ten g × (k < g .sectors) × (body (sector (sectorsOf g (now image)) (getD (passing (geo g)) k 0)) ≡ replicate 254 0) ⌝ }
-    ensures { λ _. ⌜ sectorsOf g (now (image .exit)) ≡ set (sectorsOf g (now (image .entry))) (getD (passing (geo g)) k 0) (linkBytes (geo g) (headOf (drop (k + 1) (passing (geo g)))) ++ replicate 254 0) ⌝ }
+// Writes the link of the sector at place i of a track, which has zeros after it.
+fn put_passed(image: &mut [u8], g: Geometry, track: usize, i: usize)
+    requires { do
+      let n = getD (passing (geo g)) (geo g .perTrack * track + i) 0
+      ⌜ Image g (now image) × Ten g × (track < g .tracks) × (i < geo g .perTrack) × (body (sector (sectorsOf g (now image)) n) ≡ replicate 254 0) ⌝ }
+    ensures { λ _. do
+      let k = geo g .perTrack * track + i
+      ⌜ sectorsOf g (now (image .exit)) ≡
+          set (sectorsOf g (now (image .entry))) (getD (passing (geo g)) k 0) (linkBytes (geo g) (headOf (drop (k + 1) (passing (geo g)))) ++ replicate 254 0) ⌝ }
 {
-    let next = next_of(g, k);
-    disc::put_link(image, g, passed(g, k), next);
+    let here = passed(g, track, i);
+    let next = passed_next(g, track, i);
+    let link = [next.track, next.sector];
+    disc::put_in(
+        image,
+        g,
+        disc::sector_at(g, here.track as usize, here.sector as usize),
+        0,
+        &link,
+    );
+}
+
+// Writes the links of a track, from place first on, into sectors of zeros.
+fn put_track(image: &mut [u8], g: Geometry, track: usize, first: usize)
+    requires { ⌜ Image g (now image) × Ten g × (track < g .tracks) × (first ≤ geo g .perTrack)
+        × (2 ≤ geo g .perTrack * track + first) × Bare (sectorsOf g (now image)) ⌝ }
+    ensures { λ _. ⌜ Linked g (geo g .perTrack * track + first) (geo g .perTrack * (track + 1)) (now (image .entry)) (now (image .exit)) ⌝ }
+{
+    let mut i = first;
+    while i < g.per_track {
+        put_passed(image, g, track, i);
+        i += 1;
+    }
 }
 
 // Writes the links of the free chain into sectors of zeros.
@@ -64,10 +98,11 @@ fn put_chain(image: &mut [u8], g: Geometry)
     requires { ⌜ Image g (now image) × Ten g × Bare (sectorsOf g (now image)) ⌝ }
     ensures { λ _. ⌜ sectorsOf g (now (image .exit)) ≡ written (chained (geo g) (blankFree (geo g)) (replicate (sectors (geo g) - 2) (replicate 254 0))) (sectorsOf g (now (image .entry))) ⌝ }
 {
-    let mut k = TAKEN;
-    while k < g.sectors {
-        put_passed(image, g, k);
-        k += 1;
+    put_track(image, g, 0, TAKEN);
+    let mut track: usize = 1;
+    while track < g.tracks {
+        put_track(image, g, track, 0);
+        track += 1;
     }
 }
 
@@ -76,7 +111,7 @@ fn pointers(g: Geometry) -> [u8; 4]
     requires { ⌜ Valid g × Ten g ⌝ }
     ensures { λ r. ⌜ r ≡ pairBytes (geo g) (headOf (blankFree (geo g))) ++ pairBytes (geo g) (go (blankDirectory (geo g))) ⌝ }
 {
-    let free = disc::place_of(g, Link::To(passed(g, TAKEN)));
+    let free = passed(g, 0, TAKEN);
     let directory = disc::place_of(g, Link::To(disc::number_of(g, 0, 4)));
     [free.sector, free.track, directory.sector, directory.track]
 }
@@ -106,10 +141,10 @@ fn blank_on(image: &mut [u8], g: Geometry, name: Name)
     put_chain(image, g);
 }
 
-pub fn blank(image: &mut [u8], name: &[u8]) -> u32
-    ensures { λ r. ⌜ answered r (now (image .exit)) ≡ afterBlank ten (now (image .entry)) (now (name .entry)) ⌝ }
+pub fn blank(image: &mut [u8], stated: Stated, name: &[u8]) -> u32
+    ensures { λ r. ⌜ answered r (now (image .exit)) ≡ afterBlank (kindOf stated) (now (image .entry)) (now (name .entry)) ⌝ }
 {
-    match disc::geometry_of(image.len()) {
+    match disc::geometry_of(stated, image.len()) {
         Sized::Wrong => refusals::SIZE,
         Sized::Of(g) => {
             let parsed = names::disc_name(name);

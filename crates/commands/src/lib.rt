@@ -3,6 +3,7 @@ use directory::Found;
 use disc::Geometry;
 use disc::SectorNo;
 use disc::Sized;
+use disc::Stated;
 use lookup::Judged;
 use names::Name;
 ghost use mathlib.Core.Path.{_≡_};
@@ -11,12 +12,12 @@ ghost use mathlib.Core.List.{[], _∷_};
 ghost use Prim.Native.Nat.{_+_, _≤_, _<_};
 ghost use lib.ListN.{length};
 ghost use lib.Dec.{eqb};
-ghost use Rattle.format.specs.Geometry.{ten, written};
+ghost use Rattle.format.specs.Geometry.{written};
 ghost use Rattle.format.specs.Names.{legalStored};
 ghost use Rattle.format.specs.Layout.{slotsEach, attribute, slotAt};
 ghost use Rattle.format.specs.Effects.{slotWrite};
 ghost use Rattle.format.specs.Calls.{answered, afterDelete, afterRename, afterProtect, deleteOn, renameOn, protectOn};
-ghost use Rattle.disc.specs.Meaning.{geo, sectorsOf, Image};
+ghost use Rattle.disc.specs.Meaning.{kindOf, geo, sectorsOf, Image};
 ghost use Rattle.lookup.specs.Meaning.{Leaves};
 ghost use Rattle.commands.specs.Meaning.{renameTo};
 
@@ -36,10 +37,10 @@ fn delete_on(image: &mut [u8], g: Geometry, name: &[u8]) -> u32
     }
 }
 
-pub fn delete(image: &mut [u8], name: &[u8]) -> u32
-    ensures { λ r. ⌜ answered r (now (image .exit)) ≡ afterDelete ten (now (image .entry)) (now (name .entry)) ⌝ }
+pub fn delete(image: &mut [u8], stated: Stated, name: &[u8]) -> u32
+    ensures { λ r. ⌜ answered r (now (image .exit)) ≡ afterDelete (kindOf stated) (now (image .entry)) (now (name .entry)) ⌝ }
 {
-    match disc::geometry_of(image.len()) {
+    match disc::geometry_of(stated, image.len()) {
         Sized::Wrong => refusals::SIZE,
         Sized::Of(g) => delete_on(image, g, name),
     }
@@ -84,10 +85,10 @@ fn rename_on(image: &mut [u8], g: Geometry, old: &[u8], new: &[u8]) -> u32
     }
 }
 
-pub fn rename(image: &mut [u8], old: &[u8], new: &[u8]) -> u32
-    ensures { λ r. ⌜ answered r (now (image .exit)) ≡ afterRename ten (now (image .entry)) (now (old .entry)) (now (new .entry)) ⌝ }
+pub fn rename(image: &mut [u8], stated: Stated, old: &[u8], new: &[u8]) -> u32
+    ensures { λ r. ⌜ answered r (now (image .exit)) ≡ afterRename (kindOf stated) (now (image .entry)) (now (old .entry)) (now (new .entry)) ⌝ }
 {
-    match disc::geometry_of(image.len()) {
+    match disc::geometry_of(stated, image.len()) {
         Sized::Wrong => refusals::SIZE,
         Sized::Of(g) => rename_on(image, g, old, new),
     }
@@ -117,10 +118,10 @@ fn protect_on(image: &mut [u8], g: Geometry, name: &[u8], on: u32) -> u32
     }
 }
 
-pub fn protect(image: &mut [u8], name: &[u8], on: u32) -> u32
-    ensures { λ r. ⌜ answered r (now (image .exit)) ≡ afterProtect ten (now (image .entry)) (now (name .entry)) on ⌝ }
+pub fn protect(image: &mut [u8], stated: Stated, name: &[u8], on: u32) -> u32
+    ensures { λ r. ⌜ answered r (now (image .exit)) ≡ afterProtect (kindOf stated) (now (image .entry)) (now (name .entry)) on ⌝ }
 {
-    match disc::geometry_of(image.len()) {
+    match disc::geometry_of(stated, image.len()) {
         Sized::Wrong => refusals::SIZE,
         Sized::Of(g) => protect_on(image, g, name, on),
     }

@@ -16,7 +16,7 @@ use Rattle.format.specs.Geometry.{Geometry, sectors, startOf, Next, Disc, secto
 use Rattle.format.specs.Layout.{slotsEach, slotStart, inUsePlace, lengthPlace, attributePlace, isAttribute, Slot, freeSlot, inUse, nameOf, slotAt, slotsAt, slotsOf, met, directoryPointer, directory, slots, entries}
 use Rattle.format.specs.Names.{letter, space, spaced, legalStored}
 use Rattle.format.specs.Check.{goodEntry, counted, rule3}
-use Rattle.disc.specs.Meaning.{geo, sectorsOf, Valid, Image}
+use Rattle.disc.specs.Meaning.{geo, sectorsOf, Valid, Image, form}
 use Rattle.disc.specs.declared.Geometry as code
 use Rattle.slots.specs.Laws.{part-cut, name-front}
 use Rattle.slots.specs.Fields.{slot-byte, slot-word}
@@ -79,12 +79,12 @@ module _ (image : List ℕ) (a : ℕ) where
 
 module _ {g : code.Geometry} {image : List ℕ} (im : Image g image) (n i : ℕ) (on : n < g .sectors) (h : i < slotsEach) where
   -- the name of an entry, by its bytes in the image
-  pub name-at : nameOf (slotAt (sectorsOf g image) n i) ≡ take 9 (drop (startOf (geo g) n + slotStart i) image)
+  pub name-at : nameOf (slotAt (sectorsOf g image) n i) ≡ take 9 (drop (startOf (form g) (geo g) n + slotStart i) image)
   name-at = name-front (sectorsOf g image) n i ∙ sym (part-cut im n (slotStart i) 9 on (omega arith))
 
   -- an entry, by its bytes in the image and its fields in the sector
   pub entry-is : goodEntry (slotAt (sectorsOf g image) n i)
-      ≡ legalStored (take 9 (drop (startOf (geo g) n + slotStart i) image)) && leb 1 (wordAt (sector (sectorsOf g image) n) (slotStart i + lengthPlace))
+      ≡ legalStored (take 9 (drop (startOf (form g) (geo g) n + slotStart i) image)) && leb 1 (wordAt (sector (sectorsOf g image) n) (slotStart i + lengthPlace))
       && isAttribute (byte (sector (sectorsOf g image) n) (slotStart i + attributePlace))
   unfolding goodEntry
   entry-is =

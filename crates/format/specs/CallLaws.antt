@@ -15,6 +15,7 @@ use Rattle.format.specs.ListLaws.{drop-take}
 use Rattle.format.specs.Refusals.{Try, Refusal, ROOM, refused, ok, _>>=_, _>>_, refuse_if_, number, valueOr, IsOk}
 use Rattle.format.specs.RefusalLaws.{ok-is, if-ok, or-ok, then-ok, never-if, never-or}
 use Rattle.format.specs.Geometry.{Format, Geometry, geometry, sectors, sectorNumber, startOf, onDisc, Disc, cut, sector, bytesOf, Write}
+use Rattle.format.specs.Arrangements.{Arranged}
 use Rattle.format.specs.GeometryLaws.{sector-cut}
 use Rattle.format.specs.Names.{stored}
 use Rattle.format.specs.Layout.{namePlace, attributePlace, Slot, attributeOf, isProtected, protectedAs, free, find}
@@ -167,9 +168,9 @@ room-exact G d name m = last-8 (saveBeforeOn G d name m) (length (free G d)) (ne
 -- ---- what a view shows
 
 -- "the 254 bytes after a sector's link"
-pub view-body : (F : Format) (image : List ℕ) (G : Geometry) (t s : ℕ) → geometry F (length image) ≡ ok G → onDisc G t s ≡ true
-    → sectorNumber G t s < sectors G → bytesOf (viewPart F image t s) image ≡ body (sector (cut G image) (sectorNumber G t s))
+pub view-body : (F : Format) (image : List ℕ) (G : Geometry) (t s : ℕ) → Arranged F G → geometry F (length image) ≡ ok G → onDisc G t s ≡ true
+    → sectorNumber G t s < sectors G → bytesOf (viewPart F image t s) image ≡ body (sector (cut F G image) (sectorNumber G t s))
 unfolding viewPart view partBy valueOr _>>=_ refuse_if_ _>>_
-view-body F image G t s g e h =
+view-body F image G t s a g e h =
     let n : ℕ = sectorNumber G t s in
-    rw (g, e) (sym (ap body (sector-cut G image n h) ∙ drop-take 2 254 (drop (startOf G n) image) ∙ ap (take 254) (drop-drop 2 (startOf G n) image)))
+    rw (g, e) (sym (ap body (sector-cut F G a image n h) ∙ drop-take 2 254 (drop (startOf F G n) image) ∙ ap (take 254) (drop-drop 2 (startOf F G n) image)))

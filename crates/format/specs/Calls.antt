@@ -79,21 +79,21 @@ module _ (G : Geometry) (d : Disc) where
     s ← find G d nine orRefuse ABSENT
     ok (slotWrite d s attributePlace (protectedAs (not (eqb on 0)) (attributeOf s) ∷ []) ∷ [])
 
--- ---- the calls on an image: refusal 1, then the refusals on its sectors
+-- ---- the calls on an image: refusal 1, then the refusals on its sectors. F is the kind of disc that the caller states.
 
 module _ (F : Format) (image : List ℕ) where
   -- a call that writes nothing into the image
   unfoldable pub asked : {A : Type 0} → (Geometry → Disc → Try Refusal A) → Try Refusal A
   asked f = do
     G ← geometry F (length image)
-    f G (cut G image)
+    f G (cut F G image)
 
   -- a call that writes sectors: the new image
   unfoldable pub changed : (Geometry → Disc → Try Refusal (List Write)) → Try Refusal (List ℕ)
   changed f = do
     G ← geometry F (length image)
-    ws ← f G (cut G image)
-    ok (flat G (written ws (cut G image)))
+    ws ← f G (cut F G image)
+    ok (flat F G (written ws (cut F G image)))
 
   -- "check 1": "The check never gives 3: on an image of a right size it answers 0 (done), and beside it the number of the broken rule, or 0"
   abbrev pub check : Try Refusal ℕ
@@ -125,14 +125,14 @@ module _ (F : Format) (image : List ℕ) where
   blank name = do
     G ← geometry F (length image)
     nine ← discName name orRefuse NAME
-    ok (flat G (blankDisc G nine))
+    ok (flat F G (blankDisc G nine))
 
   -- "view 1, 11": "Sector view, for unsound images too, shows the 254 bytes after a sector's link .. (bytes 2 to 255, for 0/1 as well)"
   unfoldable pub view : (track sector : ℕ) → Try Refusal Part
   view t s = do
     G ← geometry F (length image)
     refuse NO-SECTOR if not (onDisc G t s)
-    ok (bodyPart G (sectorNumber G t s))
+    ok (bodyPart F G (sectorNumber G t s))
 
 -- ---- what each call answers and leaves: "With a refusal every other number in the answer is 0, a view is empty, and all lent memory stays."
 

@@ -3,24 +3,47 @@
 -- Assumes nothing.
 use Prim.Native.Nat.{ℕ, zero, suc, _+_, _*_, _/_, _%_, _-_}
 use mathlib.Core.Bool.{Bool, not, _&&_, cond}
-use mathlib.Core.List.{List, [], _∷_}
+use mathlib.Core.List.{List, [], _∷_, map}
 use lib.ListN.{getD, set, take, drop}
 use lib.Dec.{eqb, leb, ltb}
-use Rattle.format.specs.Lists.{joined}
+use Rattle.format.specs.Lists.{range, joined, indexOf}
 use Rattle.format.specs.Refusals.{Try, Refusal, SIZE, ok, refuse_if_, _>>_}
 
 -- ---- tracks and sectors
 
--- What a kind of disc has on each track: how many sectors, and the order in which a blank disc's chain passes them.
+-- What a kind of disc has on each track: how many sectors, the order in which a blank disc's chain passes them, and the arrangement: the
+-- sectors in the order in which an image has them.
 pub record Format : Type 0 where
   pub perTrack : ℕ
   pub order : List ℕ
+  pub arrangement : List ℕ
+
+-- the same kind of disc in another arrangement
+abbrev pub arranged : List ℕ → Format → Format
+arranged A F = record { perTrack = F .perTrack; order = F .order; arrangement = A }
+
+-- so many sectors a track, and this passing order; an image has the sectors of a track in the order of their numbers
+abbrev pub inOrder : ℕ → List ℕ → Format
+inOrder k o = record { perTrack = k; order = o; arrangement = range 1 k }
 
 -- "tracks .. of 10 sectors, numbered 1 to 10"; "On each track the chain passes 1, 4, 7, 10, 3, 6, 9, 2, 5, 8".
 unfoldable pub ten : Format
-ten = record { perTrack = 10; order = 1 ∷ 4 ∷ 7 ∷ 10 ∷ 3 ∷ 6 ∷ 9 ∷ 2 ∷ 5 ∷ 8 ∷ [] }
+ten = inOrder 10 (1 ∷ 4 ∷ 7 ∷ 10 ∷ 3 ∷ 6 ∷ 9 ∷ 2 ∷ 5 ∷ 8 ∷ [])
 
--- One side of a disc: a format and T, the number of tracks.
+-- "The new card stores the sectors of each track in passing order".
+unfoldable pub tenMoved : Format
+tenMoved = arranged (ten .order) ten
+
+-- a kind of disc that there isn't: with no sector on a track, no length is right (the law `no-disc`)
+unfoldable pub unknown : Format
+unknown = inOrder 0 []
+
+-- What the caller states: "0 for plain or 1 for moved; another number gives 1."
+unfoldable pub stated : (arrangement : ℕ) → Format
+stated a = cond (eqb a 0) ten (cond (eqb a 1) tenMoved unknown)
+
+-- One side of a disc: T, the number of tracks, and what a format has on each. The arrangement is no part of it: what is on a disc never hangs on where
+-- an image has its sectors.
 pub record Geometry : Type 0 where
   pub tracks : ℕ
   pub perTrack : ℕ
@@ -34,7 +57,7 @@ tracked F T = record { tracks = T; perTrack = F .perTrack; order = F .order }
 abbrev pub sectors : Geometry → ℕ
 sectors G = G .perTrack * G .tracks
 
--- Refusal 1: "image length isn't 2,560 times 1 to 80".
+-- Refusal 1: "image length isn't 2,560 times 1 to 80"; "another number gives 1": of an unknown kind no length is right.
 unfoldable pub geometry : Format → ℕ → Try Refusal Geometry
 geometry F n = do
   let track = 256 * F .perTrack
@@ -44,10 +67,6 @@ geometry F n = do
 -- "Track t, sector s is sector number 10t + s - 1".
 abbrev pub sectorNumber : Geometry → ℕ → ℕ → ℕ
 sectorNumber G t s = G .perTrack * t + s - 1
-
--- ".. and starts at 256 times that number." (the law `sector-cut`: this is where `cut` finds the sector)
-abbrev pub startOf : Geometry → ℕ → ℕ
-startOf G n = 256 * n
 
 -- "On the disc" means track below T, sector 1 to 10.
 abbrev pub onDisc : Geometry → ℕ → ℕ → Bool
@@ -60,6 +79,23 @@ trackOf G n = n / G .perTrack
 -- its sector on the track
 abbrev pub sectorOf : Geometry → ℕ → ℕ
 sectorOf G n = n % G .perTrack + 1
+
+-- ---- places in an image, counted in sectors
+
+-- the place of a sector: on its track, where the arrangement has it
+unfoldable pub placeOf : Format → Geometry → ℕ → ℕ
+placeOf F G n = G .perTrack * trackOf G n + indexOf (sectorOf G n) (F .arrangement)
+
+-- the sector at a place
+unfoldable pub sectorAt : Format → Geometry → ℕ → ℕ
+sectorAt F G p = sectorNumber G (p / G .perTrack) (getD (F .arrangement) (p % G .perTrack) 0)
+
+-- A plain image's sector "starts at 256 times that number" (`plain-place`); any image's at 256 times its place. (the law `sector-cut`: this
+-- is where `cut` finds the sector)
+abbrev pub startOf : Format → Geometry → ℕ → ℕ
+startOf F G n = 256 * placeOf F G n
+
+-- ---- links and pointers
 
 -- What a track and a sector byte lead to: nothing, a sector of the disc by its number, or no sector of the disc.
 pub data Next : Type 0 where
@@ -82,17 +118,21 @@ unfoldable pub chunks : ℕ → List ℕ → Disc
 chunks zero xs = []
 chunks (suc n) xs = take 256 xs ∷ chunks n (drop 256 xs)
 
--- the sectors of an image
-unfoldable pub cut : Geometry → List ℕ → Disc
-cut G image = chunks (sectors G) image
-
--- the image of sectors
-unfoldable pub flat : Geometry → Disc → List ℕ
-flat G d = joined d
-
 -- the bytes of sector number n
 abbrev pub sector : Disc → ℕ → List ℕ
 sector d n = getD d n []
+
+-- N sectors, the n-th being the one that stands at `at n`
+unfoldable pub reordered : (at : ℕ → ℕ) → ℕ → Disc → Disc
+reordered at N d = map (λ n. sector d (at n)) (range 0 N)
+
+-- the sectors of an image, in the order of their numbers
+unfoldable pub cut : Format → Geometry → List ℕ → Disc
+cut F G image = reordered (placeOf F G) (sectors G) (chunks (sectors G) image)
+
+-- the image of sectors
+unfoldable pub flat : Format → Geometry → Disc → List ℕ
+flat F G d = joined (reordered (sectorAt F G) (sectors G) d)
 
 -- a part of an image: where it starts, and how many bytes it has
 pub record Part : Type 0 where
@@ -100,8 +140,12 @@ pub record Part : Type 0 where
   pub size : ℕ
 
 -- "the 254 bytes after a sector's link where they lie in the image" (bytes 2 to 255)
-abbrev pub bodyPart : Geometry → ℕ → Part
-bodyPart G n = record { at = startOf G n + 2; size = 254 }
+abbrev pub bodyPart : Format → Geometry → ℕ → Part
+bodyPart F G n = record { at = startOf F G n + 2; size = 254 }
+
+-- where the image of the same sectors in the arrangement A has a part of one sector
+abbrev pub movedPart : Format → (A : List ℕ) → Geometry → Part → Part
+movedPart F A G p = record { at = startOf (arranged A F) G (sectorAt F G (p .at / 256)) + p .at % 256; size = p .size }
 
 -- the bytes of a part
 abbrev pub bytesOf : Part → List ℕ → List ℕ

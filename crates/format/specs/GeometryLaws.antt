@@ -5,19 +5,20 @@ use mathlib.Core.Path.{_≡_, refl, sym, ap, ap₂, _∙_, subst}
 use mathlib.Core.Logic.{_≢_}
 use Prim.Native.Nat.{ℕ, zero, suc, _+_, _*_, _/_, _%_, _-_, _≤_, _<_}
 use native.Mathlib.Omega.{arith}
-use native.Mathlib.Decide.{decLe}
-use native.Mathlib.Nat.{lt-of-not-le, mul-suc, mul-le-mul-left, mul-add-div, div-eq-of-lt, div-add-mod, mod-lt, div-lt-iff-lt-mul, mul-comm}
+use native.Mathlib.Decide.{decLe, ℕ-discrete}
+use native.Mathlib.Nat.{lt-of-not-le, mul-suc, mul-le-mul-left, mul-add-div, div-eq-of-lt, div-add-mod, mod-lt, div-lt-iff-lt-mul, mul-comm, div-zero}
 use mathlib.Core.Bool.{Bool, true, false, not, _&&_, cond}
 use mathlib.Core.List.{List, [], _∷_, _++_, map}
 use lib.ListN.{length, getD, set, take, drop, length-set, length-append, length-drop, take-append-drop}
 use lib.Dec.{eqb, leb, ltb}
 use lib.Seq.{sets, getD-set-other, getD-set-same, take-set-lt, take-set-le, drop-set-lt, drop-set-add, getD-drop, getD-take, take-at, drop-at, drop-drop, length-take-le, set-getD, set-set}
 use borrow.Author.Tests.{eq-eqb, ne-eqb, lt-ltb, le-ltb, le-leb, lt-leb, ltb-true, leb-true, eqb-true, not-false}
-use Rattle.format.specs.Lists.{joined, times}
+use Rattle.format.specs.Lists.{joined, times, range, indexOf}
 use Rattle.format.specs.ListLaws.{and-true, All, done, _also_, all-getD, all-set, times-here, times-past}
 use Rattle.format.specs.Refusals.{refused, ok, SIZE, refuse_if_, _>>_}
 use Rattle.format.specs.RefusalLaws.{if-ok, ok-is}
-use Rattle.format.specs.Geometry.{Format, Geometry, tracked, geometry, sectors, sectorNumber, startOf, onDisc, trackOf, sectorOf, Next, stop, go, off, pointed, Disc, chunks, cut, flat, sector, Write, written}
+use Rattle.format.specs.Geometry.{Format, arranged, ten, tenMoved, unknown, stated, Geometry, tracked, geometry, sectors, sectorNumber, startOf, onDisc, trackOf, sectorOf, placeOf, sectorAt, Next, stop, go, off, pointed, Disc, chunks, reordered, cut, flat, sector, Write, written}
+use Rattle.format.specs.Arrangements.{index-below, at-index, element-times, index-at, index-range, Arranged, arrangement-long, arranged-once, reordered-long, reordered-at, reordered-each, reordered-back, reordered-set}
 
 -- ---- the geometry of a length
 
@@ -57,6 +58,34 @@ pub geometry-many : (F : Format) (n : ℕ) → n % (256 * F .perTrack) ≡ 0 →
 unfolding geometry refuse_if_ _>>_
 geometry-many F n a b c = simp (eq-eqb _ _ a, le-leb 1 _ b, lt-leb _ 80 c)
 
+-- a length is right for every arrangement or for none
+pub same-length : (F : Format) (A : List ℕ) (n : ℕ) → geometry (arranged A F) n ≡ geometry F n
+unfolding geometry
+same-length F A n = refl
+
+-- no length is right for a kind of disc that there isn't
+pub no-disc : (n : ℕ) → geometry unknown n ≡ refused SIZE
+unfolding unknown
+no-disc n = elim (ℕ-discrete (n % 0) 0) [ yes e ↦ geometry-none unknown n e (omega (arith, div-zero n)) | no e ↦ geometry-rest unknown n e ]
+
+-- "another number gives 1"
+pub stated-unknown : (a : ℕ) → 1 < a → stated a ≡ unknown
+unfolding stated
+stated-unknown a h = simp (ne-eqb a 0 (λ e. omega arith), ne-eqb a 1 (λ e. omega arith))
+
+pub other-number : (a : ℕ) → 1 < a → (n : ℕ) → geometry (stated a) n ≡ refused SIZE
+other-number a h n = rw (stated-unknown a h) (no-disc n)
+
+-- what holds of each kind of disc holds of what a caller states
+pub stated-cases : (P : Format → Type 0) → P ten → P tenMoved → P unknown → (a : ℕ) → P (stated a)
+unfolding stated
+stated-cases P plain moved none a = by (eqb a 0) (eqb a 1)
+  where
+    by : (x y : Bool) → P (cond x ten (cond y tenMoved unknown))
+    by true y = plain
+    by false true = moved
+    by false false = none
+
 -- ---- on the disc, and what a track and a sector byte lead to
 
 module _ (G : Geometry) (t s : ℕ) where
@@ -88,6 +117,13 @@ module _ (G : Geometry) (t s : ℕ) where
   unfolding pointed
   pointed-high h k =
       elim (decLe (G .tracks) t) [ yes l ↦ pointed-past h l | no l ↦ simp (ne-eqb s 0 (λ e. omega arith), past-track (lt-of-not-le l) h k) ]
+
+-- what `onDisc` tests
+pub on-disc-is : (G : Geometry) (t s : ℕ) → onDisc G t s ≡ true → (t < G .tracks) × (1 ≤ s) × (s ≤ G .perTrack)
+on-disc-is G t s e =
+    let h = and-true (ltb t (G .tracks) && leb 1 s) (leb s (G .perTrack)) e in
+    let k = and-true (ltb t (G .tracks)) (leb 1 s) (h .0) in
+    (ltb-true t _ (k .0), leb-true 1 s (k .1), leb-true s _ (h .1))
 
 -- ---- sector numbers
 
@@ -124,6 +160,93 @@ module _ (G : Geometry) (some-sector : 0 < G .perTrack) where
   -- a sector's own track and sector lead to it
   pub pointed-back : (n : ℕ) → n < sectors G → pointed G (trackOf G n) (sectorOf G n) ≡ go n
   pointed-back n h = pointed-go G _ _ (omega arith) (sector-range n) (track-range n h) ∙ ap go (number-back n)
+
+-- ---- sectors and their places in an image
+
+some-on-track : (G : Geometry) (n : ℕ) → n < sectors G → 0 < G .perTrack
+some-on-track G n h = elim (ℕ-discrete (G .perTrack) 0) [
+  | yes e ↦ absurd (omega (arith, ap (λ (k : ℕ). k * G .tracks) e))
+  | no e ↦ omega arith
+]
+
+-- where the sectors of a track stand in the order of their numbers
+pub plain-place : (F : Format) (G : Geometry) → F .arrangement ≡ range 1 (G .perTrack) → (n : ℕ) → n < sectors G → placeOf F G n ≡ n
+unfolding placeOf
+plain-place F G e n h =
+    let some = some-on-track G n h in
+    ap (λ (A : List ℕ). G .perTrack * trackOf G n + indexOf (sectorOf G n) A) e
+    ∙ omega (arith, index-range 1 (G .perTrack) (sectorOf G n) (omega arith) (omega (arith, sector-range G some n)), div-add-mod n (G .perTrack))
+
+module _ (F : Format) (G : Geometry) (a : Arranged F G) where
+  module _ (n : ℕ) (on : n < sectors G) where
+    some : 0 < G .perTrack
+    some = some-on-track G n on
+
+    stands : 0 < times (sectorOf G n) (F .arrangement)
+    stands = omega (arith, a .inside (sectorOf G n) (omega arith) (omega (arith, sector-range G some n)))
+
+    on-track : indexOf (sectorOf G n) (F .arrangement) < G .perTrack
+    on-track = omega (arith, index-below (sectorOf G n) (F .arrangement) stands, arrangement-long F G a)
+
+    pub place-below : placeOf F G n < sectors G
+    unfolding placeOf
+    place-below = omega (arith, on-track, mul-le-mul-left (G .perTrack) (track-range G some n on), mul-suc (G .perTrack) (trackOf G n))
+
+    place-track : placeOf F G n / G .perTrack ≡ trackOf G n
+    unfolding placeOf
+    place-track =
+        mul-add-div some (trackOf G n) (indexOf (sectorOf G n) (F .arrangement)) ∙ ap (λ (q : ℕ). trackOf G n + q) (div-eq-of-lt on-track) ∙ omega arith
+
+    place-rest : placeOf F G n % G .perTrack ≡ indexOf (sectorOf G n) (F .arrangement)
+    unfolding placeOf
+    place-rest =
+        let e : G .perTrack * (placeOf F G n / G .perTrack) ≡ G .perTrack * trackOf G n = ap (λ (q : ℕ). G .perTrack * q) place-track in
+        omega (arith, div-add-mod (placeOf F G n) (G .perTrack))
+
+    -- from a sector to its place, and back
+    pub place-back : sectorAt F G (placeOf F G n) ≡ n
+    unfolding sectorAt
+    place-back =
+        ap₂ (λ (t i : ℕ). sectorNumber G t (getD (F .arrangement) i 0)) place-track place-rest
+        ∙ ap (sectorNumber G (trackOf G n)) (at-index (sectorOf G n) (F .arrangement) stands) ∙ number-back G some n
+
+  module _ (p : ℕ) (on : p < sectors G) where
+    some′ : 0 < G .perTrack
+    some′ = some-on-track G p on
+
+    on-track′ : p % G .perTrack < length (F .arrangement)
+    on-track′ = omega (arith, mod-lt p some′, arrangement-long F G a)
+
+    stands′ : 0 < times (getD (F .arrangement) (p % G .perTrack) 0) (F .arrangement)
+    stands′ = element-times (F .arrangement) (p % G .perTrack) on-track′
+
+    at : ℕ
+    at = getD (F .arrangement) (p % G .perTrack) 0
+
+    at-least : 1 ≤ at
+    unfolding at
+    at-least = elim (ℕ-discrete at 0) [ yes e ↦ absurd (omega (arith, stands′, ap (λ (s : ℕ). times s (F .arrangement)) e, a .zeroth)) | no e ↦ omega arith ]
+
+    at-most : at ≤ G .perTrack
+    unfolding at
+    at-most = elim (decLe at (G .perTrack)) [ yes l ↦ l | no l ↦ absurd (omega (arith, stands′, a .outside at (lt-of-not-le l))) ]
+
+    pub sector-at-below : sectorAt F G p < sectors G
+    unfolding sectorAt at
+    sector-at-below = number-below G some′ (p / G .perTrack) at (track-range G some′ p on) at-least at-most
+
+    -- from a place to its sector, and back
+    pub sector-at-back : placeOf F G (sectorAt F G p) ≡ p
+    unfolding placeOf sectorAt at
+    sector-at-back =
+        ap₂ (λ (t s : ℕ). G .perTrack * t + indexOf s (F .arrangement))
+        (track-back G some′ (p / G .perTrack) at at-least at-most) (sector-back G some′ (p / G .perTrack) at at-least at-most)
+        ∙ ap (λ (i : ℕ). G .perTrack * (p / G .perTrack) + i) (index-at (F .arrangement) (p % G .perTrack) (arranged-once F G a) on-track′)
+        ∙ div-add-mod p (G .perTrack)
+
+  -- no two sectors at one place
+  pub place-alone : (m n : ℕ) → m < sectors G → n < sectors G → placeOf F G m ≡ placeOf F G n → m ≡ n
+  place-alone m n h k e = sym (place-back m h) ∙ ap (sectorAt F G) e ∙ place-back n k
 
 -- what leads to a sector, if it does, leads to one of the disc
 unfoldable pub OnDisc : Geometry → Next → Type 0
@@ -212,36 +335,59 @@ chunks-at (suc N) image (suc n) h =
     let e : 256 + 256 * n ≡ 256 * suc n = omega arith in
     chunks-at N (drop 256 image) n (omega arith) ∙ ap (take 256) (drop-drop (256 * n) 256 image ∙ ap (λ (k : ℕ). drop k image) e)
 
-module _ (G : Geometry) where
-  pub length-cut : (image : List ℕ) → length (cut G image) ≡ sectors G
-  unfolding cut
-  length-cut image = chunks-many (sectors G) image
+pub length-cut : (F : Format) (G : Geometry) (image : List ℕ) → length (cut F G image) ≡ sectors G
+unfolding cut
+length-cut F G image = reordered-long (placeOf F G) (sectors G) (chunks (sectors G) image)
 
-  -- a sector "starts at 256 times that number"
-  pub sector-cut : (image : List ℕ) (n : ℕ) → n < sectors G → sector (cut G image) n ≡ take 256 (drop (startOf G n) image)
+module _ (F : Format) (G : Geometry) (a : Arranged F G) where
+  -- a sector starts at 256 times its place
+  pub sector-cut : (image : List ℕ) (n : ℕ) → n < sectors G → sector (cut F G image) n ≡ take 256 (drop (startOf F G n) image)
   unfolding cut
-  sector-cut image n h = chunks-at (sectors G) image n h
+  sector-cut image n h =
+      reordered-at (placeOf F G) (sectors G) (chunks (sectors G) image) n h ∙ chunks-at (sectors G) image (placeOf F G n) (place-below F G a n h)
 
-  pub cut-full : (image : List ℕ) → length image ≡ 256 * sectors G → Full G (cut G image)
+  pub cut-full : (image : List ℕ) → length image ≡ 256 * sectors G → Full G (cut F G image)
   unfolding cut
-  cut-full image h = record { many = chunks-many (sectors G) image; each = chunks-each (sectors G) image h }
+  cut-full image h = record {
+    many = length-cut F G image;
+    each = reordered-each (placeOf F G) (sectors G) (place-below F G a)
+        (chunks (sectors G) image) (chunks-many (sectors G) image) (chunks-each (sectors G) image h);
+  }
 
-  pub cut-flat : (d : Disc) → Full G d → cut G (flat G d) ≡ d
+  -- the sectors by their places
+  shelved : Disc → Disc
+  shelved d = reordered (sectorAt F G) (sectors G) d
+
+  shelved-many : (d : Disc) → length (shelved d) ≡ sectors G
+  unfolding shelved
+  shelved-many d = reordered-long (sectorAt F G) (sectors G) d
+
+  shelved-each : (d : Disc) → Full G d → All (λ s. length s ≡ 256) (shelved d)
+  unfolding shelved
+  shelved-each d f = reordered-each (sectorAt F G) (sectors G) (sector-at-below F G a) d (f .many) (f .each)
+
+  pub cut-flat : (d : Disc) → Full G d → cut F G (flat F G d) ≡ d
+  unfolding cut flat shelved
+  cut-flat d f =
+      ap (reordered (placeOf F G) (sectors G)) (ap (λ (n : ℕ). chunks n (joined (shelved d))) (sym (shelved-many d)) ∙ chunks-joined (shelved-each d f))
+      ∙ reordered-back (placeOf F G) (sectors G) (place-below F G a) (sectorAt F G) d (f .many) (place-back F G a)
+
+  pub flat-cut : (image : List ℕ) → length image ≡ 256 * sectors G → flat F G (cut F G image) ≡ image
   unfolding cut flat
-  cut-flat d f = ap (λ (n : ℕ). chunks n (joined d)) (sym (f .many)) ∙ chunks-joined (f .each)
+  flat-cut image h =
+      ap joined (reordered-back (sectorAt F G) (sectors G) (sector-at-below F G a) (placeOf F G)
+      (chunks (sectors G) image) (chunks-many (sectors G) image) (sector-at-back F G a))
+      ∙ joined-chunks (sectors G) image h
 
-  pub flat-cut : (image : List ℕ) → length image ≡ 256 * sectors G → flat G (cut G image) ≡ image
-  unfolding cut flat
-  flat-cut image h = joined-chunks (sectors G) image h
-
-  pub flat-long : (d : Disc) → Full G d → length (flat G d) ≡ 256 * sectors G
-  unfolding flat
-  flat-long d f = joined-long (f .each) ∙ ap (λ (n : ℕ). 256 * n) (f .many)
+  pub flat-long : (d : Disc) → Full G d → length (flat F G d) ≡ 256 * sectors G
+  unfolding flat shelved
+  flat-long d f = joined-long (shelved-each d f) ∙ ap (λ (n : ℕ). 256 * n) (shelved-many d)
 
   -- ---- loads and stores in an image
 
-  pub byte-cut : (image : List ℕ) (n k : ℕ) → n < sectors G → k < 256 → getD (sector (cut G image) n) k 0 ≡ getD image (startOf G n + k) 0
-  byte-cut image n k hn hk = ap (λ (s : List ℕ). getD s k 0) (sector-cut image n hn) ∙ getD-take 256 (drop (startOf G n) image) k 0 hk ∙ getD-drop (startOf G n) image k 0
+  pub byte-cut : (image : List ℕ) (n k : ℕ) → n < sectors G → k < 256 → getD (sector (cut F G image) n) k 0 ≡ getD image (startOf F G n + k) 0
+  byte-cut image n k hn hk =
+      ap (λ (s : List ℕ). getD s k 0) (sector-cut image n hn) ∙ getD-take 256 (drop (startOf F G n) image) k 0 hk ∙ getD-drop (startOf F G n) image k 0
 
 chunks-set : (N : ℕ) (image : List ℕ) (n k v : ℕ) → n < N → k < 256
     → chunks N (set image (256 * n + k) v) ≡ set (chunks N image) n (set (getD (chunks N image) n []) k v)
@@ -271,7 +417,13 @@ chunks-sets N image n k (v ∷ vs) hn hk =
     ∙ sector-again d n (suc k) (set (sector d n) k v) vs (omega (arith, chunks-many N image))
 
 -- bytes stored from place k of sector n on
-pub sets-cut : (G : Geometry) (image : List ℕ) (n k : ℕ) (vs : List ℕ) → n < sectors G → k + length vs ≤ 256
-    → cut G (sets image (startOf G n + k) vs) ≡ set (cut G image) n (sets (sector (cut G image) n) k vs)
+pub sets-cut : (F : Format) (G : Geometry) → Arranged F G → (image : List ℕ) (n k : ℕ) (vs : List ℕ) → n < sectors G → k + length vs ≤ 256
+    → cut F G (sets image (startOf F G n + k) vs) ≡ set (cut F G image) n (sets (sector (cut F G image) n) k vs)
 unfolding cut
-sets-cut G image n k vs hn hk = chunks-sets (sectors G) image n k vs hn hk
+sets-cut F G a image n k vs hn hk =
+    let N : ℕ = sectors G in
+    let d : Disc = chunks N image in
+    let p : ℕ = placeOf F G n in
+    ap (reordered (placeOf F G) N) (chunks-sets N image p k vs (place-below F G a n hn) hk)
+    ∙ reordered-set (placeOf F G) N (place-below F G a) d n (sets (sector d p) k vs) (chunks-many N image) hn (λ m h e. place-alone F G a m n h hn e)
+    ∙ ap (λ (s : List ℕ). set (cut F G image) n (sets s k vs)) (sym (reordered-at (placeOf F G) N d n hn))

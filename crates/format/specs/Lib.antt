@@ -3,6 +3,7 @@ pub mod ListLaws
 pub mod Refusals
 pub mod RefusalLaws
 pub mod Geometry
+pub mod Arrangements
 pub mod GeometryLaws
 pub mod Names
 pub mod NameLaws
@@ -15,3 +16,6 @@ pub mod ModuleLaws
 pub mod Effects
 pub mod Calls
 pub mod CallLaws
+pub mod WholeWrites
+pub mod Moving
+pub mod MovingLaws

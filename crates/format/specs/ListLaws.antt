@@ -12,7 +12,7 @@ use lib.ListN.{length, getD, set, take, drop, replicate, length-append, length-r
 use lib.Seq.{take-nil}
 use lib.Dec.{eqb}
 use borrow.Author.Tests.{eq-eqb, ne-eqb, eqb-true}
-use Rattle.format.specs.Lists.{all, elem, distinct, same, sameAll, consIf, filter, range, joined, padded, sum, times, lastOr}
+use Rattle.format.specs.Lists.{all, elem, distinct, same, sameAll, consIf, filter, range, joined, padded, sum, times, lastOr, Once}
 
 -- ---- tests
 
@@ -213,12 +213,6 @@ tally-here (suc N) x xs h =
 tally-all : (N : ℕ) (xs : List ℕ) → All (λ x. x < N) xs → tally N xs ≡ length xs
 tally-all N [] done = tally-none N
 tally-all N (x ∷ xs) (h also hs) = omega (arith, tally-here N x xs h, tally-all N xs hs)
-
--- each of 1 to N - 1 once, and no other
-pub record Once (N : ℕ) (xs : List ℕ) : Type 0 where
-  pub inside : (n : ℕ) → 0 < n → n < N → times n xs ≡ 1
-  pub zeroth : times 0 xs ≡ 0
-  pub outside : (n : ℕ) → N ≤ n → times n xs ≡ 0
 
 tally-once : (N M : ℕ) (xs : List ℕ) → Once N xs → suc M ≤ N → tally (suc M) xs ≡ M
 unfolding tally

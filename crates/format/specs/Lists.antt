@@ -1,7 +1,8 @@
 -- Functions on lists, bytes and sixteen-bit numbers that the definitions are written with. All but `times` compute, so they are `abbrev`s.
 -- Assumes nothing.
-use Prim.Native.Nat.{ℕ, zero, suc, _+_, _*_, _/_, _%_, _-_}
-use mathlib.Core.Bool.{Bool, true, false, not, _&&_, _||_}
+use mathlib.Core.Path.{_≡_}
+use Prim.Native.Nat.{ℕ, zero, suc, _+_, _*_, _/_, _%_, _-_, _≤_, _<_}
+use mathlib.Core.Bool.{Bool, true, false, not, _&&_, _||_, cond}
 use mathlib.Core.List.{List, [], _∷_, _++_}
 use lib.ListN.{length, getD, drop, replicate}
 use lib.Dec.{eqb}
@@ -81,6 +82,17 @@ sum (x ∷ xs) = x + sum xs
 -- how often n stands in the list
 unfoldable pub times : ℕ → List ℕ → ℕ
 times n xs = length (filter (eqb n) xs)
+
+-- each of 1 to N - 1 once, and no other
+pub record Once (N : ℕ) (xs : List ℕ) : Type 0 where
+  pub inside : (n : ℕ) → 0 < n → n < N → times n xs ≡ 1
+  pub zeroth : times 0 xs ≡ 0
+  pub outside : (n : ℕ) → N ≤ n → times n xs ≡ 0
+
+-- where n first stands in the list, from 0 on; the list's length if nowhere
+abbrev pub indexOf : ℕ → List ℕ → ℕ
+indexOf n [] = 0
+indexOf n (x ∷ xs) = cond (eqb n x) 0 (suc (indexOf n xs))
 
 -- the last element, or d
 abbrev pub lastOr : ℕ → List ℕ → ℕ

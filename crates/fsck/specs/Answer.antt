@@ -5,7 +5,10 @@ use Prim.Native.Nat.{ℕ, _<_}
 use mathlib.Core.List.{List}
 use lib.ListN.{length}
 use Rattle.format.specs.Refusals.{Try, Refusal, SIZE, refused, ok, _>>=_, number, valueOr}
-use Rattle.format.specs.Geometry.{Geometry, ten, geometry, cut}
+use Rattle.disc.specs.Meaning.{form, geo, sectorsOf}
+use Rattle.disc.specs.Laws.{Opened}
+use Rattle.disc.specs.declared.Geometry as code
+use Rattle.format.specs.Geometry.{Format, Geometry, geometry, cut}
 use Rattle.format.specs.Check.{broken}
 use Rattle.format.specs.Calls.{CheckAnswer, asked, checkAnswerBy, afterCheck}
 use Rattle.fsck.specs.declared.Checked.{Checked}
@@ -28,13 +31,16 @@ pub record Answers (r : Checked) (a : CheckAnswer) : Type 0 where
   pub numbers : answerOf r ≡ a
   pub named : RuleNamed r
 
-module _ (image : List ℕ) where
-  pub after-size : geometry ten (length image) ≡ refused SIZE → afterCheck ten image ≡ record { number = 1; rule = 0 }
+module _ (F : Format) (image : List ℕ) where
+  pub after-size : geometry F (length image) ≡ refused SIZE → afterCheck F image ≡ record { number = 1; rule = 0 }
   unfolding afterCheck checkAnswerBy asked _>>=_ number valueOr
-  after-size e = ap (λ (t : Try Refusal Geometry). checkAnswerBy (t >>= (λ G. ok (broken G (cut G image))))) e
+  after-size e = ap (λ (t : Try Refusal Geometry). checkAnswerBy (t >>= (λ G. ok (broken G (cut F G image))))) e
 
-  pub after-rule : (G : Geometry) → geometry ten (length image) ≡ ok G → (k : ℕ) → broken G (cut G image) ≡ k → afterCheck ten image ≡ record { number = 0; rule = k }
+  on-geometry : (G : Geometry) → geometry F (length image) ≡ ok G → (k : ℕ) → broken G (cut F G image) ≡ k → afterCheck F image ≡ record { number = 0; rule = k }
   unfolding afterCheck checkAnswerBy asked _>>=_ number valueOr
-  after-rule G e k h =
-      ap (λ (t : Try Refusal Geometry). checkAnswerBy (t >>= (λ G. ok (broken G (cut G image))))) e
+  on-geometry G e k h =
+      ap (λ (t : Try Refusal Geometry). checkAnswerBy (t >>= (λ G. ok (broken G (cut F G image))))) e
       ∙ ap (λ (x : ℕ). checkAnswerBy (ok x)) h
+
+pub after-rule : {F : Format} {g : code.Geometry} {image : List ℕ} → Opened F g image → (j : ℕ) → broken (geo g) (sectorsOf g image) ≡ j → afterCheck F image ≡ record { number = 0; rule = j }
+after-rule {g = g} {image = image} o j h = ap (λ (F : Format). afterCheck F image) (o .kind-is) ∙ on-geometry (form g) image (geo g) (o .geometry-is) j h

@@ -2,7 +2,7 @@
 -- Assumes nothing.
 use mathlib.Core.Path.{_≡_, refl, sym, ap, ap₂, _∙_, subst}
 use mathlib.Core.Logic.{_≢_}
-use Prim.Native.Nat.{ℕ, suc, _+_, _-_, _<_}
+use Prim.Native.Nat.{ℕ, zero, suc, _+_, _-_, _<_}
 use native.Mathlib.Omega.{arith}
 use mathlib.Core.Bool.{Bool, true, false, cond, _&&_, and-false}
 use mathlib.Core.List.{List}
@@ -64,6 +64,12 @@ module _ (G : Geometry) (d : Disc) (m : List ℕ) (k l : ℕ) where
       let e : k + suc rest ≡ k + 1 + rest = omega arith in
       simp (eq-eqb (getD m n 0) 0 h, e)
 
+  -- what was met last before a sector does not matter
+  walk-any : (steps n l′ : ℕ) → walk G d steps (go n) m k l′ ≡ walk G d steps (go n) m k l
+  unfolding walk met
+  walk-any zero n l′ = simp (ends-none G d n)
+  walk-any (suc steps) n l′ = refl
+
 -- ---- the turns of a walk
 
 pub walking-start : {G : Geometry} {d : Disc} (most : ℕ) (p : Next) (m : List ℕ) → most ≡ sectors G
@@ -85,6 +91,13 @@ module _ {G : Geometry} {d : Disc} {most count : ℕ} {p : Next} {m : List ℕ} 
 
   pub walking-off : p ≡ off → Broken ≡ w
   walking-off e = turn off _ e refl (walk-off G d m count l (most - count))
+
+  pub walking-any : (n l′ : ℕ) → p ≡ go n → Walking G d most count (go n) m l′ w m′
+  walking-any n l′ e =
+      record {
+        left = walk-any G d m count l (most - count) n l′ ∙ ap (λ (q : Next). walk G d (most - count) q m count l) (sym e) ∙ i .left;
+        marks = ap (λ (q : Next). marked m (met G d (most - count) q)) (sym e) ∙ i .marks;
+      }
 
   module _ (n : ℕ) (e : p ≡ go n) where
     pub walking-long : count ≡ most → Broken ≡ w

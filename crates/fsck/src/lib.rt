@@ -1,18 +1,21 @@
 // The check of a disc image.
 use disc::Geometry;
 use disc::Link;
+use disc::Sector;
 use disc::SectorNo;
 use disc::Sized;
+use disc::Stated;
+use disc::Step;
 ghost use mathlib.Core.Path.{_≡_};
 ghost use mathlib.Core.List.{[], _∷_};
 ghost use mathlib.Core.Bool.{not};
 ghost use Prim.Native.Nat.{_-_, _≤_, _<_};
 ghost use Rattle.format.specs.Lists.{all, range};
-ghost use Rattle.format.specs.Geometry.{ten};
+ghost use Rattle.format.specs.Geometry.{go};
 ghost use Rattle.format.specs.Layout.{slotsEach, inUse, slotAt, directory, entries};
 ghost use Rattle.format.specs.Check.{at?, elsewhere, broken, sound};
 ghost use Rattle.format.specs.Calls.{afterCheck};
-ghost use Rattle.disc.specs.Meaning.{geo, sectorsOf, meaning, Inside, Image};
+ghost use Rattle.disc.specs.Meaning.{kindOf, geo, sectorsOf, meaning, Image, Lies, led, Reaches};
 ghost use Rattle.slots.specs.InOrder.{slotsFrom};
 ghost use Rattle.fsck.specs.Marks.{clear};
 ghost use Rattle.fsck.specs.Walks.{Walked};
@@ -45,37 +48,48 @@ enum Walk {
     Broken,
 }
 
-// Walks along a chain, and marks each sector met. A sector with a mark breaks the walk.
-fn follow(image: &[u8], g: Geometry, from: Link, marks: &mut [u8; 800]) -> Walk
-    requires { ⌜ Image g (now image) × Inside g from ⌝ }
-    ensures { λ r. ⌜ Walked (geo g) (sectorsOf g (now (image .entry))) (meaning from) (now (marks .entry)) r (now (marks .exit)) ⌝ }
+// Walks along a chain from a sector on, and marks each sector met. A sector with a mark breaks the walk.
+fn follow_from(image: &[u8], g: Geometry, first: Sector, marks: &mut [u8; 800]) -> Walk
+    requires { ⌜ Image g (now image) × Lies g first ⌝ }
+    ensures { λ r. ⌜ Walked (geo g) (sectorsOf g (now (image .entry))) (go (first .number .0)) (now (marks .entry)) r (now (marks .exit)) ⌝ }
 {
     let most = g.sectors;
-    let mut at = from;
+    let mut at = first;
     let mut count: usize = 0;
-    let mut last: usize = 0;
     loop {
-        match at {
-            Link::End => {
+        if count == most {
+            return Walk::Broken;
+        }
+        let last = at.number.0;
+        if marks[last] != 0 {
+            return Walk::Broken;
+        }
+        marks[last] = 1;
+        count += 1;
+        let next = disc::step_from(image, g, at);
+        match next {
+            Step::End => {
                 return Walk::Ended { count, last };
             }
-            Link::Off => {
+            Step::Off => {
                 return Walk::Broken;
             }
-            Link::To(n) => {
-                if count == most {
-                    return Walk::Broken;
-                }
-                let k = n.0;
-                if marks[k] != 0 {
-                    return Walk::Broken;
-                }
-                marks[k] = 1;
-                last = k;
-                count += 1;
-                at = disc::link_of(image, g, n);
+            Step::To(s) => {
+                at = s;
             }
         }
+    }
+}
+
+// The same from where a pointer or a link leads.
+fn follow(image: &[u8], g: Geometry, from: Step, marks: &mut [u8; 800]) -> Walk
+    requires { ⌜ Image g (now image) × Reaches g from ⌝ }
+    ensures { λ r. ⌜ Walked (geo g) (sectorsOf g (now (image .entry))) (led from) (now (marks .entry)) r (now (marks .exit)) ⌝ }
+{
+    match from {
+        Step::End => Walk::Ended { count: 0, last: 0 },
+        Step::Off => Walk::Broken,
+        Step::To(s) => follow_from(image, g, s, marks),
     }
 }
 
@@ -102,7 +116,7 @@ fn file_of(image: &[u8], g: Geometry, n: SectorNo, i: usize, marks: &mut [u8; 80
     ensures { λ r. ⌜ Filed (geo g) (sectorsOf g (now (image .entry))) (slotAt (sectorsOf g (now (image .entry))) (n .0) i ∷ []) 800 (now (marks .entry)) r (now (marks .exit)) ⌝ }
 {
     let entry = slots::slot_start(i);
-    let first = disc::pair_of(image, g, n, entry + FIRST);
+    let first = disc::step_of(image, g, n, entry + FIRST);
     let Walk::Ended { count, last } = follow(image, g, first, marks) else {
         return Files::Bad;
     };
@@ -161,7 +175,7 @@ fn free_good(image: &[u8], g: Geometry, marks: &mut [u8; 800]) -> bool
     requires { ⌜ Image g (now image) ⌝ }
     ensures { λ r. ⌜ FreeGood (geo g) (sectorsOf g (now (image .entry))) (now (marks .entry)) r (now (marks .exit)) ⌝ }
 {
-    let first = disc::pair_of(image, g, SectorNo(0), FREE_POINTER);
+    let first = disc::step_of(image, g, SectorNo(0), FREE_POINTER);
     let Walk::Ended { count, last: _ } = follow(image, g, first, marks) else {
         return false;
     };
@@ -203,7 +217,8 @@ fn directory_broken(image: &[u8], g: Geometry, marks: &mut [u8; 800]) -> u8
     if !is_elsewhere(first) {
         return 1;
     }
-    let Walk::Ended { count: _, last: _ } = follow(image, g, first, marks) else {
+    let from = disc::step_to(g, first);
+    let Walk::Ended { count: _, last: _ } = follow(image, g, from, marks) else {
         return 2;
     };
     if !entries::entries_good(image, g) {
@@ -263,10 +278,10 @@ pub enum Checked {
     Broken(u8),
 }
 
-pub fn check(image: &[u8]) -> Checked
-    ensures { λ r. ⌜ Answers r (afterCheck ten (now (image .entry))) ⌝ }
+pub fn check(image: &[u8], stated: Stated) -> Checked
+    ensures { λ r. ⌜ Answers r (afterCheck (kindOf stated) (now (image .entry))) ⌝ }
 {
-    let Sized::Of(g) = disc::geometry_of(image.len()) else {
+    let Sized::Of(g) = disc::geometry_of(stated, image.len()) else {
         return Checked::Size;
     };
     let rule = lowest_broken(image, g);

@@ -11,8 +11,8 @@ use mathlib.Core.List.{List, [], _∷_, map, _++_, append-nil}
 use lib.ListN.{length, set, replicate, length-replicate, getD-replicate}
 use lib.Seq.{sets, length-sets}
 use borrow.Author.Tests.{ne-eqb, eq-eqb}
-use Rattle.format.specs.Lists.{elem, range, joined, sum, times, byte, word, wordAt}
-use Rattle.format.specs.ListLaws.{zero-or, All, done, _also_, times-none, times-join, times-here, times-past, at-all, Once, once-long}
+use Rattle.format.specs.Lists.{elem, range, joined, sum, times, byte, word, wordAt, Once}
+use Rattle.format.specs.ListLaws.{zero-or, All, done, _also_, times-none, times-join, times-here, times-past, at-all, once-long}
 use Rattle.format.specs.Geometry.{Geometry, sectors, sectorNumber, trackOf, sectorOf, Next, go, pointed, Disc, sector, written}
 use Rattle.format.specs.GeometryLaws.{pointed-stop, number-back, track-back, sector-back, sector-range, track-range, sector-other, sector-same, Full, full-set}
 use Rattle.format.specs.Layout.{freePlace, directoryPlace, freeCountPlace, usedCountPlace, discNamePlace, versionPlace, inUsePlace, Slot, inUse, lengthOf, slotsAt, slotsOf, pairAt, pairBytes, linkOf}

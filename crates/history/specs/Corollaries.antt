@@ -45,19 +45,19 @@ saved-typed : (F : Format) (s name : List ℕ) (m : Module) → afterSave F s na
 unfolding afterSave answerBy changed
 saved-typed F s name m e =
     let a = then-ok (geometry F (length s)) _ (zero-ok s (changed F s (λ G d. saveOn G d name m)) e) in
-    let b = then-ok (saveOn (a .0) (cut (a .0) s) name m) _ (a .2) in
-    let q = save-ok (a .0) (cut (a .0) s) name m (b .0) (b .1) in
+    let b = then-ok (saveOn (a .0) (cut F (a .0) s) name m) _ (a .2) in
+    let q = save-ok (a .0) (cut F (a .0) s) name m (b .0) (b .1) in
     q .typed ∙ ap some (sym (nine-of name (q .typed)))
 
 module _ (F : Format) (f : SoundFormat F) (s : List ℕ) (G : Geometry) (g : geometry F (length s) ≡ ok G) (checked : afterCheck F s ≡ isSound) where
   -- "At the start these are the entries', each reading as read with a buffer of 65,536 bytes gives it."
-  pub opening-reads : (i : ℕ) (file : File) → getElem? (openingBook G (cut G s) .files) i ≡ some file
+  pub opening-reads : (i : ℕ) (file : File) → getElem? (openingBook G (cut F G s) .files) i ≡ some file
       → (typed buffer : List ℕ) → stored typed ≡ some (file .name) → length buffer ≡ 65536 → afterRead F s typed buffer ≡ readAnswerBy buffer (file .reading orRefuse NOT-PLAIN)
   unfolding run bookAfter openingBook
   opening-reads i file e typed buffer t long =
       let m = run-moment F f s G g (checked-sound F s G g checked) [] tt 0 (omega arith) in
       let small = all-got {P = λ file. (m : Module) → file .reading ≡ some m → length (m .bytes) ≤ 65536} i file
-      (all-mapped _ (all-any (entries G (cut G s)) (λ slot. reading-small G (cut G s) slot))) e in
+      (all-mapped _ (all-any (entries G (cut F G s)) (λ slot. reading-small G (cut F G s) slot))) e in
       m .reads i file e typed buffer t ∙ ap (readAnswerBy buffer) (says-whole (file .reading) (length buffer) (λ m q. omega (arith, small m q)))
 
   -- an accepted save's module is read back under its name
@@ -65,7 +65,7 @@ module _ (F : Format) (f : SoundFormat F) (s : List ℕ) (G : Geometry) (g : geo
       → (buffer : List ℕ) → afterRead F (afterSave F s name m .image) name buffer ≡ readAnswerBy buffer (says (some m) (length buffer))
   unfolding run bookAfter step entered accepted
   saved-reads name m handed e buffer =
-      let b : Book = openingBook G (cut G s) in
+      let b : Book = openingBook G (cut F G s) in
       let c : Command = save name m in
       let now : Moment F G s (afterSave F s name m .image) (accepted b c) =
       subst (λ (k : ℕ). Moment F G s (afterSave F s name m .image) (entered b c k)) e (run-moment F f s G g (checked-sound F s G g checked) (c ∷ []) (handed, tt) 1 (omega arith)) in

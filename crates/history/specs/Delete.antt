@@ -8,8 +8,8 @@ use native.Mathlib.Decide.{ℕ-discrete}
 use mathlib.Core.List.{List, _∷_, map, _++_}
 use lib.ListN.{length, set, length-append, length-set}
 use lib.Seq.{length-sets}
-use Rattle.format.specs.Lists.{sum, times, lastOr, byte, wordAt}
-use Rattle.format.specs.ListLaws.{All, tail-of, all-join, all-left, all-right, map-join, times-join, all-at, at-all, Once}
+use Rattle.format.specs.Lists.{sum, times, lastOr, byte, wordAt, Once}
+use Rattle.format.specs.ListLaws.{All, tail-of, all-join, all-left, all-right, map-join, times-join, all-at, at-all}
 use Rattle.format.specs.Geometry.{Geometry, sectors, Disc, sector, written}
 use Rattle.format.specs.GeometryLaws.{pointed-on, sector-other, sector-same, Full, sector-full, full-set}
 use Rattle.format.specs.Layout.{freeCountPlace, usedCountPlace, linkPlace, inUsePlace, system, freeCount, usedCount, Slot, emptySlot, inUse, lengthOf, slotsOf, linkBytes, linkOf, freePointer, firstOf, fileChain}

@@ -7,10 +7,14 @@ use native.Mathlib.Omega.{arith}
 use native.Mathlib.Nat.{mul-le-mul-left}
 use mathlib.Core.List.{List, [], _∷_}
 use lib.ListN.{length, take, length-map}
+use Rattle.format.specs.Lists.{Once}
 use Rattle.format.specs.Refusals.{Refusal, numberOf, Try, refused, ok, _>>=_, number, valueOr}
-use Rattle.format.specs.RefusalLaws.{refusal-number}
-use Rattle.format.specs.Geometry.{Format, ten, Geometry, geometry, Disc, cut, flat, Write, written}
-use Rattle.format.specs.GeometryLaws.{ImageOf, geometry-ok, cut-full, cut-flat, flat-long}
+use Rattle.format.specs.RefusalLaws.{refused-ok, refusal-number}
+use Rattle.format.specs.Geometry.{Format, ten, tenMoved, unknown, stated, Geometry, geometry, Disc, cut, flat, Write, written}
+use Rattle.format.specs.Arrangements.{Arranged}
+use Rattle.format.specs.Moving.{Arrangement}
+use Rattle.format.specs.MovingLaws.{ten-arranged, passing-arranged}
+use Rattle.format.specs.GeometryLaws.{no-disc, stated-cases, ImageOf, geometry-ok, cut-full, cut-flat, flat-long}
 use Rattle.format.specs.Layout.{slotsEach, slotsOf, directory, free, slots, entries}
 use Rattle.format.specs.Check.{broken}
 use Rattle.format.specs.Calls.{saveOn, deleteOn, renameOn, protectOn, asked, changed, answerBy, CheckAnswer, checkAnswerBy, afterCheck, afterSave, afterDelete, afterRename, afterProtect}
@@ -25,10 +29,14 @@ use Rattle.history.specs.BookFiles.{fileOf, filesOf}
 use Rattle.history.specs.State.{State, protect-state, delete-state, rename-state, save-state}
 use Rattle.history.specs.Moments.{moment}
 
--- a kind of disc with a sector on each track, whose sector numbers fit a byte
+-- a kind of disc with a sector on each track, whose sector numbers fit a byte, and with each sector of a track at one place
 pub record SoundFormat (F : Format) : Type 0 where
   pub some-sector : 0 < F .perTrack
   pub few : F .perTrack < 256
+  pub each-once : Arrangement F (F .arrangement)
+
+pub image-arranged : {F : Format} {G : Geometry} {n : ℕ} → SoundFormat F → ImageOf F G n → Arranged F G
+image-arranged {F} f i = subst (λ (k : ℕ). Once (suc k) (F .arrangement)) (sym (i .per-track)) (f .each-once)
 
 pub image-bounded : {F : Format} {G : Geometry} {n : ℕ} → SoundFormat F → ImageOf F G n → Bounded G
 image-bounded {F} {G} f i = record { some-sector = omega (arith, f .some-sector, i .per-track); few = omega (arith, mul-le-mul-left (G .perTrack) (i .few-tracks), f .few, i .per-track) }
@@ -53,31 +61,34 @@ module _ (F : Format) (f : SoundFormat F) (s : List ℕ) (G : Geometry) (g : geo
   size : ImageOf F G (length s)
   size = geometry-ok F (length s) G g
 
+  arr : Arranged F G
+  arr = image-arranged f size
+
   -- a moment of a run from s on
   pub record At (image : List ℕ) (b : Book) : Type 0 where
     pub long : length image ≡ length s
-    pub state : State G (cut G s) (cut G image) b
+    pub state : State G (cut F G s) (cut F G image) b
 
   same-geometry : {image : List ℕ} {b : Book} → At image b → geometry F (length image) ≡ ok G
   same-geometry a = ap (geometry F) (a .long) ∙ g
 
   -- a command that writes
   writing : (image : List ℕ) (b : Book) (c : Command) (h : Geometry → Disc → Try Refusal (List Write)) → At image b
-      → ((ws : List Write) → h G (cut G image) ≡ ok ws → State G (cut G s) (written ws (cut G image)) (accepted b c))
+      → ((ws : List Write) → h G (cut F G image) ≡ ok ws → State G (cut F G s) (written ws (cut F G image)) (accepted b c))
       → At (answerBy image (changed F image h) .image) (entered b c (answerBy image (changed F image h) .number))
   unfolding changed entered answerBy valueOr number _>>=_
-  writing image b c h a keeps = rw (same-geometry a) (case (h G (cut G image)) refl)
+  writing image b c h a keeps = rw (same-geometry a) (case (h G (cut F G image)) refl)
     where
       after : Try Refusal (List Write) → Try Refusal (List ℕ)
-      after r = r >>= λ ws. ok (flat G (written ws (cut G image)))
+      after r = r >>= λ ws. ok (flat F G (written ws (cut F G image)))
 
-      case : (r : Try Refusal (List Write)) → h G (cut G image) ≡ r → At (valueOr image (after r)) (entered b c (number (after r)))
+      case : (r : Try Refusal (List Write)) → h G (cut F G image) ≡ r → At (valueOr image (after r)) (entered b c (number (after r)))
       case (refused e) p = subst (At image) (sym (refused-book b c (numberOf e) (refusal-number e))) a
       case (ok ws) p =
           let st = keeps ws p in
           record {
-            long = flat-long G (written ws (cut G image)) (st .full) ∙ sym (size .long);
-            state = subst (λ (d : Disc). State G (cut G s) d (accepted b c)) (sym (cut-flat G (written ws (cut G image)) (st .full))) st;
+            long = flat-long F G arr (written ws (cut F G image)) (st .full) ∙ sym (size .long);
+            state = subst (λ (d : Disc). State G (cut F G s) d (accepted b c)) (sym (cut-flat F G arr (written ws (cut F G image)) (st .full))) st;
           }
 
   -- a command that doesn't
@@ -98,10 +109,10 @@ module _ (F : Format) (f : SoundFormat F) (s : List ℕ) (G : Geometry) (g : geo
   step-at image b check h a = asking image b check _ refl a
   step-at image b (view x y) h a = asking image b (view x y) _ refl a
 
-  start-at : broken G (cut G s) ≡ 0 → At s (openingBook G (cut G s))
+  start-at : broken G (cut F G s) ≡ 0 → At s (openingBook G (cut F G s))
   unfolding openingBook sumDirectory entries slots
   start-at e =
-      let d : Disc = cut G s in
+      let d : Disc = cut F G s in
       let n : ℕ = length (entriesOf d (directory G d)) in
       let few : n ≤ slotsEach * length (directory G d) = omega (arith, inUse-many (slotsOf d (directory G d)), slots-many d (directory G d)) in
       let m : length (filesOf G d (directory G d)) ≡ n = length-map (entriesOf d (directory G d)) (fileOf G d) in
@@ -111,7 +122,7 @@ module _ (F : Format) (f : SoundFormat F) (s : List ℕ) (G : Geometry) (g : geo
           dir = directory G d;
           frees = free G d;
           laid = sound-laid G d e;
-          full = cut-full G s (size .long);
+          full = cut-full F G arr s (size .long);
           same-files = as-is;
           directory-size = omega arith;
           below-peak = omega arith;
@@ -124,14 +135,14 @@ module _ (F : Format) (f : SoundFormat F) (s : List ℕ) (G : Geometry) (g : geo
   run-at [] (suc k) image b h l a = absurd (omega arith)
   run-at (c ∷ cs) (suc k) image b h l a = run-at cs k (step F image c .image) (entered b c (step F image c .number)) (h .1) (omega arith) (step-at image b c (h .0) a)
 
-  pub run-moment : broken G (cut G s) ≡ 0 → (cs : List Command) → AllHanded cs → (k : ℕ) → k ≤ length cs
-      → Moment F G s (run F s (take k cs)) (bookAfter F (openingBook G (cut G s)) s (take k cs))
+  pub run-moment : broken G (cut F G s) ≡ 0 → (cs : List Command) → AllHanded cs → (k : ℕ) → k ≤ length cs
+      → Moment F G s (run F s (take k cs)) (bookAfter F (openingBook G (cut F G s)) s (take k cs))
   run-moment e cs handed k l =
-      let a = run-at cs k s (openingBook G (cut G s)) handed l (start-at e) in
-      moment F G s (run F s (take k cs)) (bookAfter F (openingBook G (cut G s)) s (take k cs)) (same-geometry a) (a .long) (a .state)
+      let a = run-at cs k s (openingBook G (cut F G s)) handed l (start-at e) in
+      moment F G s (run F s (take k cs)) (bookAfter F (openingBook G (cut F G s)) s (take k cs)) (same-geometry a) (a .long) (a .state)
 
 -- what the check's answer says of the disc
-pub checked-sound : (F : Format) (s : List ℕ) (G : Geometry) → geometry F (length s) ≡ ok G → afterCheck F s ≡ isSound → broken G (cut G s) ≡ 0
+pub checked-sound : (F : Format) (s : List ℕ) (G : Geometry) → geometry F (length s) ≡ ok G → afterCheck F s ≡ isSound → broken G (cut F G s) ≡ 0
 unfolding afterCheck checkAnswerBy asked _>>=_ valueOr
 checked-sound F s G g e = ap (λ (c : CheckAnswer). c .rule) (rw g at e)
 
@@ -140,10 +151,20 @@ pub demand-3-of : (F : Format) → SoundFormat F → Demand3 F
 unfolding Demand3
 demand-3-of F f s G g checked cs handed k l = run-moment F f s G g (checked-sound F s G g checked) cs handed k l
 
+-- ten sectors a track, plain and moved
 pub ten-sound : SoundFormat ten
 unfolding ten
-ten-sound = record { some-sector = omega arith; few = omega arith }
+ten-sound = record { some-sector = omega arith; few = omega arith; each-once = ten-arranged }
 
--- the disc of document 01
-pub demand-3 : Demand3 ten
-demand-3 = demand-3-of ten ten-sound
+pub moved-sound : SoundFormat tenMoved
+unfolding tenMoved ten
+moved-sound = record { some-sector = omega arith; few = omega arith; each-once = passing-arranged }
+
+-- a kind of disc that there isn't has no runs
+none-runs : Demand3 unknown
+unfolding Demand3
+none-runs s G g = absurd (refused-ok (sym (no-disc (length s)) ∙ g))
+
+-- for whatever arrangement a caller states, "one throughout, in a run from the check of its start on"
+pub demand-3 : (a : ℕ) → Demand3 (stated a)
+demand-3 = stated-cases Demand3 (demand-3-of ten ten-sound) (demand-3-of tenMoved moved-sound) none-runs

@@ -48,15 +48,15 @@ pub record Moment (F : Format) (G : Geometry) (s image : List ℕ) (b : Book) : 
   pub size : length image ≡ length s
   pub checked : afterCheck F image ≡ isSound
   -- "each sector but 0/1 is met exactly once by directory, files and free chain together, 0/1 (system) never"
-  pub ending : allEnd G (cut G image) ≡ true
-  pub once : (n : ℕ) → 0 < n → n < sectors G → times n (places G (cut G image)) ≡ 1
-  pub system-never : times 0 (places G (cut G image)) ≡ 0
+  pub ending : allEnd G (cut F G image) ≡ true
+  pub once : (n : ℕ) → 0 < n → n < sectors G → times n (places G (cut F G image)) ≡ 1
+  pub system-never : times 0 (places G (cut F G image)) ≡ 0
   -- "The number of free sectors is the free chain's length and the free count alike": the sum, also with no subtraction
-  pub free-chain : length (free G (cut G image)) ≡ sumFree G (cut G s) b
-  pub free-count : freeCount (cut G image) ≡ sumFree G (cut G s) b
-  pub free-added : length (free G (cut G image)) + 1 + sumDirectory G (cut G s) b + sumFiles G (cut G s) b ≡ sectors G
+  pub free-chain : length (free G (cut F G image)) ≡ sumFree G (cut F G s) b
+  pub free-count : freeCount (cut F G image) ≡ sumFree G (cut F G s) b
+  pub free-added : length (free G (cut F G image)) + 1 + sumDirectory G (cut F G s) b + sumFiles G (cut F G s) b ≡ sectors G
   -- of every save possible now: it answers what the book says, so 8 exactly where the sum is smaller than the need
-  pub saves : (name : List ℕ) (m : Module) → afterSave F image name m .number ≡ number (saveSays G (cut G s) b name m)
+  pub saves : (name : List ℕ) (m : Module) → afterSave F image name m .number ≡ number (saveSays G (cut F G s) b name m)
   -- every file of the book, under every text that is stored as its name, and lent any buffer; and there is such a text
   pub reads : (i : ℕ) (f : File) → getElem? (b .files) i ≡ some f → (typed buffer : List ℕ) → stored typed ≡ some (f .name)
       → afterRead F image typed buffer ≡ readAnswerBy buffer (says (f .reading) (length buffer))
@@ -65,13 +65,13 @@ pub record Moment (F : Format) (G : Geometry) (s image : List ℕ) (b : Book) : 
   pub absent : (typed nine buffer : List ℕ) → stored typed ≡ some nine → any (named nine) (b .files) ≡ false
       → afterRead F image typed buffer ≡ readAnswerBy buffer (refused ABSENT)
 
--- the claim, over the whole list
+-- The claim, over the whole list. F is what the caller states, "one throughout, in a run from the check of its start on" (document 02, k).
 unfoldable pub Demand3 : Format → Type 0
 Demand3 F =
     (s : List ℕ) (G : Geometry) → geometry F (length s) ≡ ok G → afterCheck F s ≡ isSound
     → (cs : List Command) → AllHanded cs → (k : ℕ) → k ≤ length cs
-    → Moment F G s (run F s (take k cs)) (bookAfter F (openingBook G (cut G s)) s (take k cs))
+    → Moment F G s (run F s (take k cs)) (bookAfter F (openingBook G (cut F G s)) s (take k cs))
 
--- "A blank disc is itself a start."
+-- "A blank disc is itself a start", in the arrangement in which it was made.
 unfoldable pub BlankStarts : Format → Type 0
 BlankStarts F = (image name : List ℕ) → afterBlank F image name .number ≡ 0 → afterCheck F (afterBlank F image name .image) ≡ isSound

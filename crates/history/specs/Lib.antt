@@ -18,3 +18,4 @@ pub mod Demand
 pub mod Corollaries
 pub mod BlankLaid
 pub mod BlankStarts
+pub mod Moved

@@ -10,8 +10,8 @@ use lib.ListN.{length, getElem?}
 use lib.Seq.{length-take-le}
 use lib.Dec.{eqb, ltb}
 use borrow.Author.Tests.{ne-eqb, eq-eqb}
-use Rattle.format.specs.Lists.{any, filter, sum}
-use Rattle.format.specs.ListLaws.{true-and, All, all-map, all-both, true-all, Once, all-mapped, same-refl}
+use Rattle.format.specs.Lists.{any, filter, sum, Once}
+use Rattle.format.specs.ListLaws.{true-and, All, all-map, all-both, true-all, all-mapped, same-refl}
 use Rattle.format.specs.Refusals.{Refusal, NAME, UNSOUND, ABSENT, TAKEN, MODULE, ROOM, NOT-PLAIN, SHORT, Try, refused, ok, _>>=_, _>>_, refuse_if_, _orRefuse_, number, valueOr}
 use Rattle.format.specs.Geometry.{Format, Geometry, sectors, geometry, Disc, cut, Write}
 use Rattle.format.specs.Names.{stored}
@@ -174,7 +174,7 @@ module _ {G : Geometry} {start d : Disc} {b : Book} (st : State G start d b) whe
 
 -- ---- the moment
 
-pub moment : (F : Format) (G : Geometry) (s image : List ℕ) (b : Book) → geometry F (length image) ≡ ok G → length image ≡ length s → State G (cut G s) (cut G image) b → Moment F G s image b
+pub moment : (F : Format) (G : Geometry) (s image : List ℕ) (b : Book) → geometry F (length image) ≡ ok G → length image ≡ length s → State G (cut F G s) (cut F G image) b → Moment F G s image b
 unfolding asked changed _>>=_ number valueOr afterCheck checkAnswerBy afterSave answerBy afterRead
 moment F G s image b g long st =
     let o = subst (Once (sectors G)) (sym (places-are st)) (st .laid .once) in
@@ -187,7 +187,7 @@ moment F G s image b g long st =
       free-chain = sym (free-sum st);
       free-count = st .laid .free-counted ∙ sym (ap length (free-is (st .laid))) ∙ sym (free-sum st);
       free-added = added-sum st;
-      saves = λ name m. rw g (number-same (saveOn G (cut G image) name m) _ ∙ save-on st name m);
+      saves = λ name m. rw g (number-same (saveOn G (cut F G image) name m) _ ∙ save-on st name m);
       reads = λ i f e typed buffer t. rw g (ap (readAnswerBy buffer) (file-reads st i f e typed (length buffer) t));
       typable = λ i f e. all-got i f (all-typable st) e;
       absent = λ typed nine buffer t e. rw g (ap (readAnswerBy buffer) (absent-reads st typed nine (length buffer) t e));

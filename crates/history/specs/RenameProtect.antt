@@ -9,8 +9,8 @@ use mathlib.Core.Bool.{true}
 use mathlib.Core.List.{List, [], _∷_, map, _++_}
 use lib.ListN.{length, take, drop, length-append}
 use lib.Seq.{sets, take-at, getD-set-same, take-set-le, sets-eq, length-sets}
-use Rattle.format.specs.Lists.{sum, times, byte}
-use Rattle.format.specs.ListLaws.{_also_, head-of, tail-of, all-map, all-join, all-left, all-right, at-all, Once}
+use Rattle.format.specs.Lists.{sum, times, byte, Once}
+use Rattle.format.specs.ListLaws.{_also_, head-of, tail-of, all-map, all-join, all-left, all-right, at-all}
 use Rattle.format.specs.Geometry.{Geometry, sectors, pointed, Disc, sector, written}
 use Rattle.format.specs.GeometryLaws.{sector-other, sector-same, Full, sector-full, full-set}
 use Rattle.format.specs.Names.{legalStored}

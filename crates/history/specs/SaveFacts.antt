@@ -5,8 +5,8 @@ use Prim.Native.Nat.{ℕ, _+_, _≤_, _<_}
 use native.Mathlib.Omega.{arith}
 use mathlib.Core.List.{List, [], _∷_, map, _++_}
 use lib.ListN.{length}
-use Rattle.format.specs.Lists.{sum, times, lastOr}
-use Rattle.format.specs.ListLaws.{All, _also_, all-join, all-left, all-right, map-same, map-join, all-at, at-all, Once}
+use Rattle.format.specs.Lists.{sum, times, lastOr, Once}
+use Rattle.format.specs.ListLaws.{All, _also_, all-join, all-left, all-right, map-same, map-join, all-at, at-all}
 use Rattle.format.specs.Geometry.{Geometry, sectors, go, Disc, sector}
 use Rattle.format.specs.GeometryLaws.{Full}
 use Rattle.format.specs.Layout.{Slot, nameOf, lengthOf, linkOf, directoryPointer, firstOf, fileChain}

@@ -6,13 +6,16 @@ use mathlib.Core.Bool.{true, false}
 use mathlib.Core.List.{List}
 use lib.ListN.{length}
 use borrow.Author.Tests.{lt-ltb, le-ltb}
+use Rattle.disc.specs.Meaning.{geo, sectorsOf}
+use Rattle.disc.specs.declared.Geometry as code
+use Rattle.disc.specs.Laws.{Opened}
 use Rattle.format.specs.Lists.{front}
-use Rattle.format.specs.Refusals.{SIZE, refused, ok, _>>_, refuse_if_}
-use Rattle.format.specs.Geometry.{Geometry, Disc, ten, geometry, cut}
+use Rattle.format.specs.Refusals.{SIZE, refused, _>>_, refuse_if_}
+use Rattle.format.specs.Geometry.{Format, Geometry, Disc, geometry}
 use Rattle.format.specs.Check.{sound}
 use Rattle.format.specs.Effects.{listing}
 use Rattle.format.specs.Calls.{ListAnswer, listOn, listAnswerBy, afterList}
-use Rattle.lookup.specs.Laws.{asked-size, asked-on}
+use Rattle.lookup.specs.Laws.{asked-size, asked-opened}
 
 -- a number, the length of the records and a buffer, as an answer
 abbrev listed : ℕ → ℕ → List ℕ → ListAnswer
@@ -41,10 +44,10 @@ module _ (G : Geometry) (d : Disc) (buffer : List ℕ) where
 -- ---- on an image
 
 module _ (image buffer : List ℕ) where
-  pub after-size : geometry ten (length image) ≡ refused SIZE → listed 1 0 buffer ≡ afterList ten image buffer
+  pub after-size : (F : Format) → geometry F (length image) ≡ refused SIZE → listed 1 0 buffer ≡ afterList F image buffer
   unfolding afterList listAnswerBy
-  after-size e = rw (asked-size image (λ (G : Geometry) (d : Disc). listOn G d (length buffer)) e)
+  after-size F e = rw (asked-size F image (λ (G : Geometry) (d : Disc). listOn G d (length buffer)) e)
 
-  pub after-on : (G : Geometry) → geometry ten (length image) ≡ ok G → answerOn G (cut G image) buffer ≡ afterList ten image buffer
+  pub after-on : {F : Format} {g : code.Geometry} → Opened F g image → answerOn (geo g) (sectorsOf g image) buffer ≡ afterList F image buffer
   unfolding afterList
-  after-on G e = rw (asked-on image (λ (G : Geometry) (d : Disc). listOn G d (length buffer)) G e)
+  after-on o = rw (asked-opened o (λ (G : Geometry) (d : Disc). listOn G d (length buffer)))

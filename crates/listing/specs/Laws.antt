@@ -7,14 +7,15 @@ use mathlib.Core.Bool.{Bool, true, false, not}
 use mathlib.Core.List.{List, [], _∷_, _++_, map, append-assoc, append-nil}
 use lib.ListN.{length, take, drop, length-append, length-drop}
 use lib.Seq.{length-take-le}
+use Rattle.disc.specs.Laws.{image-full}
 use Rattle.format.specs.Lists.{word, consIf, filter, joined}
 use Rattle.format.specs.ListLaws.{All, done, _also_, all-map, all-filter, all-joined, all-mapped, range-all, joined-join}
 use Rattle.format.specs.Geometry.{Geometry, sectors, startOf, Disc, sector}
-use Rattle.format.specs.GeometryLaws.{pointed-on, sector-full, cut-full}
+use Rattle.format.specs.GeometryLaws.{pointed-on, sector-full}
 use Rattle.format.specs.ChainLaws.{met-few, met-below}
 use Rattle.format.specs.Layout.{discNamePlace, slotsEach, slotStart, freeCount, usedCount, discNameOf, Slot, freeSlot, inUse, nameOf, lengthOf, attributeOf, slotAt, slotsAt, slotsOf, directoryPointer, directory, slots, entries}
 use Rattle.format.specs.Effects.{listing}
-use Rattle.disc.specs.Meaning.{geo, sectorsOf, Image}
+use Rattle.disc.specs.Meaning.{geo, sectorsOf, Image, form}
 use Rattle.disc.specs.declared.Geometry as code
 use Rattle.slots.specs.Laws.{name-front, name-nine, part-cut}
 use Rattle.slots.specs.InOrder.{slotsFrom, slots-next, slots-end, use-join, use-free, use-used}
@@ -127,7 +128,7 @@ module _ {g : code.Geometry} {image : List ℕ} (im : Image g image) where
   disc-nine : length (discNameOf (sectorsOf g image)) ≡ 9
   disc-nine =
       let system : List ℕ = sector (sectorsOf g image) 0 in
-      let long = sector-full (cut-full (geo g) image (omega (arith, im .long, im .valid .total))) 0 (omega (arith, im .valid .total)) in
+      let long = sector-full (image-full im) 0 (omega (arith, im .valid .total)) in
       length-take-le 9 (drop discNamePlace system) (omega (arith, length-drop discNamePlace system))
 
   pub disc-long : length (discRecord (sectorsOf g image)) ≡ 14
@@ -150,13 +151,13 @@ module _ {g : code.Geometry} {image : List ℕ} (im : Image g image) where
   -- ---- where the bytes of a record come from
 
   -- nine bytes of sector n from place k on, where they lie in the image
-  pub nine-at : (n k start : ℕ) → n < g .sectors → k + 9 ≤ 256 → start ≡ startOf (geo g) n + k
+  pub nine-at : (n k start : ℕ) → n < g .sectors → k + 9 ≤ 256 → start ≡ startOf (form g) (geo g) n + k
       → take (start + 9 - start) (drop start image) ≡ take 9 (drop k (sector (sectorsOf g image) n))
   nine-at n k start on fits e =
       let nine : start + 9 - start ≡ 9 = omega arith in
       ap₂ (λ (L j : ℕ). take L (drop j image)) nine e ∙ part-cut im n k 9 on fits
 
-  pub name-at : (n i start : ℕ) → n < g .sectors → i < slotsEach → start ≡ startOf (geo g) n + slotStart i
+  pub name-at : (n i start : ℕ) → n < g .sectors → i < slotsEach → start ≡ startOf (form g) (geo g) n + slotStart i
       → take (start + 9 - start) (drop start image) ≡ nameOf (slotAt (sectorsOf g image) n i)
   name-at n i start on h e = nine-at n (slotStart i) start on (omega arith) e ∙ sym (name-front (sectorsOf g image) n i)
 

@@ -4,17 +4,17 @@ use directory::Step;
 use disc::Geometry;
 use disc::SectorNo;
 use disc::Sized;
+use disc::Stated;
 ghost use mathlib.Core.Path.{_≡_};
 ghost use mathlib.Core.List.{[], _∷_, _++_};
 ghost use Prim.Native.Nat.{_+_, _*_, _/_, _%_, _≤_, _<_};
 ghost use lib.ListN.{length};
 ghost use lib.Seq.{sets};
 ghost use Rattle.format.specs.Lists.{front};
-ghost use Rattle.format.specs.Geometry.{ten};
 ghost use Rattle.format.specs.Layout.{slotsEach, inUse, slotAt, slotsAt, slots, entries};
 ghost use Rattle.format.specs.Effects.{listing};
 ghost use Rattle.format.specs.Calls.{listOn, listAnswerBy, afterList};
-ghost use Rattle.disc.specs.Meaning.{geo, sectorsOf, Image};
+ghost use Rattle.disc.specs.Meaning.{kindOf, geo, sectorsOf, Image};
 ghost use Rattle.listing.specs.Meaning.{entryRecord, recordsOf, discRecord, Stored, listAnswer};
 
 // 1 for a slot with an entry, 0 for a free one.
@@ -219,10 +219,10 @@ fn list_on(image: &[u8], g: Geometry, buffer: &mut [u8]) -> Listed
     }
 }
 
-pub fn list(image: &[u8], buffer: &mut [u8]) -> Listed
-    ensures { λ r. ⌜ listAnswer r (now (buffer .exit)) ≡ afterList ten (now (image .entry)) (now (buffer .entry)) ⌝ }
+pub fn list(image: &[u8], stated: Stated, buffer: &mut [u8]) -> Listed
+    ensures { λ r. ⌜ listAnswer r (now (buffer .exit)) ≡ afterList (kindOf stated) (now (image .entry)) (now (buffer .entry)) ⌝ }
 {
-    match disc::geometry_of(image.len()) {
+    match disc::geometry_of(stated, image.len()) {
         Sized::Wrong => Listed {
             number: refusals::SIZE,
             length: 0,

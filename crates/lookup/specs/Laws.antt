@@ -2,21 +2,20 @@
 -- Assumes nothing.
 use mathlib.Core.Path.{_≡_, refl, sym, ap, ap₂, subst, _∙_}
 use Prim.Native.Nat.{ℕ}
-use native.Mathlib.Omega.{arith}
 use mathlib.Core.Bool.{Bool, true, false, not}
 use mathlib.Core.Option.{Option, none, some}
 use mathlib.Core.List.{List}
 use lib.ListN.{length}
 use borrow.Author.Tests.{not-false}
+use Rattle.disc.specs.Laws.{image-whole, Opened}
 use Rattle.format.specs.Refusals.{Try, Refusal, SIZE, NAME, UNSOUND, ABSENT, numberOf, refused, ok, _>>=_, _>>_, refuse_if_, _orRefuse_, number, valueOr}
 use Rattle.format.specs.RefusalLaws.{refused-ok, ok-is, or-ok, if-ok}
-use Rattle.format.specs.Geometry.{Geometry, ten, geometry, Disc, cut, flat, Write, written}
-use Rattle.format.specs.GeometryLaws.{flat-cut}
+use Rattle.format.specs.Geometry.{Format, Geometry, geometry, Disc, cut, flat, Write, written}
 use Rattle.format.specs.Names.{stored}
 use Rattle.format.specs.Layout.{Slot, find}
 use Rattle.format.specs.Check.{sound}
 use Rattle.format.specs.Calls.{answered, answerBy, asked, changed}
-use Rattle.disc.specs.Meaning.{geo, sectorsOf, Image}
+use Rattle.disc.specs.Meaning.{geo, sectorsOf, form}
 use Rattle.disc.specs.declared.Geometry as code
 use Rattle.lookup.specs.Meaning.{entryOn, Refuses, writtenBy, Leaves}
 
@@ -104,29 +103,33 @@ done-leaves g before after t ws e h = record { answers = sym (ap number e); sect
 -- ---- from sectors to the image
 
 -- a call that writes nothing into the image
-module _ {A : Type 0} (image : List ℕ) (f : Geometry → Disc → Try Refusal A) where
-  pub asked-size : geometry ten (length image) ≡ refused SIZE → asked ten image f ≡ refused SIZE
+module _ {A : Type 0} (F : Format) (image : List ℕ) (f : Geometry → Disc → Try Refusal A) where
+  pub asked-size : geometry F (length image) ≡ refused SIZE → asked F image f ≡ refused SIZE
   unfolding asked _>>=_
   asked-size e = rw e
 
-  pub asked-on : (G : Geometry) → geometry ten (length image) ≡ ok G → asked ten image f ≡ f G (cut G image)
+  pub asked-on : (G : Geometry) → geometry F (length image) ≡ ok G → asked F image f ≡ f G (cut F G image)
   unfolding asked _>>=_
   asked-on G e = rw e
 
-module _ (image : List ℕ) (f : Geometry → Disc → Try Refusal (List Write)) where
-  pub changed-size : geometry ten (length image) ≡ refused SIZE → answerBy image (changed ten image f) ≡ answered 1 image
+module _ (F : Format) (image : List ℕ) (f : Geometry → Disc → Try Refusal (List Write)) where
+  pub changed-size : geometry F (length image) ≡ refused SIZE → answerBy image (changed F image f) ≡ answered 1 image
   unfolding answerBy changed _>>=_ number valueOr
   changed-size e = rw e
 
-  pub changed-leaves : (g : code.Geometry) (after : List ℕ) (r : ℕ) → geometry ten (length image) ≡ ok (geo g) → Image g image → length after ≡ length image
-      → Leaves g image after r (f (geo g) (sectorsOf g image)) → answered r after ≡ answerBy image (changed ten image f)
+module _ {F : Format} {g : code.Geometry} {image : List ℕ} (o : Opened F g image) where
+  pub asked-opened : {A : Type 0} (f : Geometry → Disc → Try Refusal A) → asked F image f ≡ f (geo g) (sectorsOf g image)
+  asked-opened {A} f = ap (λ (F : Format). asked F image f) (o .kind-is) ∙ asked-on (form g) image f (geo g) (o .geometry-is)
+
+  pub changed-leaves : (f : Geometry → Disc → Try Refusal (List Write)) (after : List ℕ) (r : ℕ) → length after ≡ length image
+      → Leaves g image after r (f (geo g) (sectorsOf g image)) → answered r after ≡ answerBy image (changed F image f)
   unfolding answerBy changed _>>=_ number valueOr
-  changed-leaves g after r e im long l = rw e (by (f (geo g) (sectorsOf g image)) l)
+  changed-leaves f after r long l = rw (o .kind-is) (rw (o .geometry-is) (by (f (geo g) (sectorsOf g image)) l))
     where
-      whole : (x : List ℕ) → length x ≡ length image → flat (geo g) (sectorsOf g x) ≡ x
-      whole x h = flat-cut (geo g) x (omega (arith, im .long, im .valid .total))
+      whole : (x : List ℕ) → length x ≡ length image → flat (form g) (geo g) (sectorsOf g x) ≡ x
+      whole x h = image-whole (o .on-image) x h
 
       by : (t : Try Refusal (List Write)) → Leaves g image after r t
-          → answered r after ≡ answered (number (t >>= λ ws. ok (flat (geo g) (written ws (cut (geo g) image))))) (valueOr image (t >>= λ ws. ok (flat (geo g) (written ws (cut (geo g) image)))))
-      by (refused q) l = ap₂ answered (l .answers) (sym (whole after long) ∙ ap (flat (geo g)) (l .sectors-are) ∙ whole image refl)
-      by (ok ws) l = ap₂ answered (l .answers) (sym (whole after long) ∙ ap (flat (geo g)) (l .sectors-are))
+          → answered r after ≡ answered (number (t >>= λ ws. ok (flat (form g) (geo g) (written ws (sectorsOf g image))))) (valueOr image (t >>= λ ws. ok (flat (form g) (geo g) (written ws (sectorsOf g image)))))
+      by (refused q) l = ap₂ answered (l .answers) (sym (whole after long) ∙ ap (flat (form g) (geo g)) (l .sectors-are) ∙ whole image refl)
+      by (ok ws) l = ap₂ answered (l .answers) (sym (whole after long) ∙ ap (flat (form g) (geo g)) (l .sectors-are))

@@ -7,15 +7,18 @@ use mathlib.Core.Option.{Option, none, some}
 use mathlib.Core.List.{List}
 use lib.ListN.{length}
 use borrow.Author.Tests.{lt-ltb, le-ltb}
+use Rattle.disc.specs.Meaning.{geo, sectorsOf}
+use Rattle.disc.specs.declared.Geometry as code
+use Rattle.disc.specs.Laws.{Opened}
 use Rattle.format.specs.Lists.{front}
 use Rattle.format.specs.Refusals.{Try, Refusal, SIZE, NOT-PLAIN, SHORT, refused, ok, _>>=_, _>>_, refuse_if_, _orRefuse_}
-use Rattle.format.specs.Geometry.{Geometry, ten, geometry, Disc, cut}
+use Rattle.format.specs.Geometry.{Format, Geometry, geometry, Disc}
 use Rattle.format.specs.Layout.{Slot}
 use Rattle.format.specs.Modules.{Module}
 use Rattle.format.specs.Effects.{reading}
 use Rattle.format.specs.Calls.{readOn, readAnswerBy, afterRead}
 use Rattle.lookup.specs.Meaning.{entryOn, Refuses}
-use Rattle.lookup.specs.Laws.{entry-then, refuses-then, asked-size, asked-on}
+use Rattle.lookup.specs.Laws.{entry-then, refuses-then, asked-size, asked-opened}
 use Rattle.reading.specs.Meaning.{headerOf, bytesIn}
 use Rattle.reading.specs.Answer.{readAnswer, refusal, doneWith, fileOn}
 use Rattle.reading.specs.declared.Header.{Header}
@@ -64,10 +67,11 @@ module _ (image name buffer : List ℕ) where
   asks : Geometry → Disc → Try Refusal Module
   asks G d = readOn G d name (length buffer)
 
-  pub read-size : geometry ten (length image) ≡ refused SIZE → readAnswer (refusal 1) buffer ≡ afterRead ten image name buffer
+  pub read-size : (F : Format) → geometry F (length image) ≡ refused SIZE → readAnswer (refusal 1) buffer ≡ afterRead F image name buffer
   unfolding afterRead readAnswerBy asks
-  read-size e = sym (ap (readAnswerBy buffer) (asked-size image asks e))
+  read-size F e = sym (ap (readAnswerBy buffer) (asked-size F image asks e))
 
-  pub read-image : (G : Geometry) → geometry ten (length image) ≡ ok G → readAnswerBy buffer (readOn G (cut G image) name (length buffer)) ≡ afterRead ten image name buffer
+  pub read-image : {F : Format} {g : code.Geometry} → Opened F g image
+      → readAnswerBy buffer (readOn (geo g) (sectorsOf g image) name (length buffer)) ≡ afterRead F image name buffer
   unfolding afterRead asks
-  read-image G e = sym (ap (readAnswerBy buffer) (asked-on image asks G e))
+  read-image o = sym (ap (readAnswerBy buffer) (asked-opened o asks))

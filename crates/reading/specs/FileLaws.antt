@@ -10,11 +10,12 @@ use mathlib.Core.List.{List, [], _∷_, _++_}
 use lib.ListN.{length, drop, length-drop, length-map}
 use lib.Seq.{drop-drop}
 use lib.Dec.{eqb}
+use Rattle.disc.specs.Laws.{image-full}
 use Rattle.format.specs.Lists.{byte, wordAt}
 use Rattle.format.specs.ListLaws.{and-true, all-map, all-mapped}
 use Rattle.format.specs.Geometry as format
 use Rattle.format.specs.Geometry.{Next, stop, go, off, pointed, onDisc, sectorNumber, Disc, sector}
-use Rattle.format.specs.GeometryLaws.{pointed-on, cut-full, sector-full}
+use Rattle.format.specs.GeometryLaws.{pointed-on, sector-full}
 use Rattle.format.specs.Layout.{Slot, lengthOf, linkOf, met, firstOf, fileChain}
 use Rattle.format.specs.ChainLaws.{met-stop, met-off, met-none, met-go, met-below, chain-met}
 use Rattle.format.specs.Modules.{endOf, sectorsFor, guessed, plain}
@@ -129,7 +130,7 @@ module _ {g : Geometry} {image : List ℕ} {first count : ℕ} (f : File g image
   -- the bytes after a link are 254
   body-long : (n : ℕ) → n < format.sectors (geo g) → length (bodyOf g image n) ≡ 254
   body-long n on =
-      let full = cut-full (geo g) image (omega (arith, f .on-image .long, f .on-image .valid .total)) in
+      let full = image-full (f .on-image) in
       length-drop 2 (sector (sectorsOf g image) n) ∙ omega (arith, sector-full full n on)
 
   later-long : Long (bodiesAfter g image first (count - 1))

@@ -9,12 +9,13 @@ use lib.ListN.{length, take, drop, length-take, length-drop}
 use lib.Seq.{slice, slice-cons, slice-empty, getD-drop, drop-cons, drop-drop}
 use lib.Dec.{eqb}
 use borrow.Author.Tests.{eq-eqb, ne-eqb}
+use Rattle.disc.specs.Laws.{each-once}
 use Rattle.format.specs.Lists.{all, byte}
 use Rattle.format.specs.ListLaws.{drop-take}
 use Rattle.format.specs.Geometry.{startOf, sector}
 use Rattle.format.specs.GeometryLaws.{sector-cut, byte-cut}
 use Rattle.format.specs.Effects.{body}
-use Rattle.disc.specs.Meaning.{geo, sectorsOf, Image}
+use Rattle.disc.specs.Meaning.{geo, sectorsOf, Image, form}
 use Rattle.disc.specs.declared.Geometry.{Geometry}
 use Rattle.reading.specs.Plain.{filled}
 
@@ -22,10 +23,10 @@ use Rattle.reading.specs.Plain.{filled}
 
 -- from place k on
 pub sector-from : {g : Geometry} {image : List ℕ} → Image g image → (n k : ℕ) → n < g .sectors
-    → drop k (sector (sectorsOf g image) n) ≡ slice (startOf (geo g) n + k) (startOf (geo g) n + 256) image
+    → drop k (sector (sectorsOf g image) n) ≡ slice (startOf (form g) (geo g) n + k) (startOf (form g) (geo g) n + 256) image
 sector-from {g} {image} i n k on =
-    let start : ℕ = startOf (geo g) n in
-    ap (drop k) (sector-cut (geo g) image n (omega (arith, i .valid .total)) ∙ sym (drop-take start 256 image))
+    let start : ℕ = startOf (form g) (geo g) n in
+    ap (drop k) (sector-cut (form g) (geo g) (each-once (i .valid)) image n (omega (arith, i .valid .total)) ∙ sym (drop-take start 256 image))
     ∙ drop-drop k start (take (start + 256) image)
 
 -- a loop over the places from a + i on, up to e
@@ -48,8 +49,8 @@ slice-end xs a i e h = ap (λ (j : ℕ). slice j e xs) h ∙ slice-empty e xs
 pub body-small : {g : Geometry} {image : List ℕ} → Image g image → ((i : ℕ) → byte image i < 256)
     → (n : ℕ) → n < g .sectors → (k : ℕ) → k < 254 → byte (body (sector (sectorsOf g image) n)) k < 256
 body-small {g} {image} i small n on k h =
-    let e = getD-drop 2 (sector (sectorsOf g image) n) k 0 ∙ byte-cut (geo g) image n (2 + k) (omega (arith, i .valid .total)) (omega arith) in
-    omega (arith, e, small (startOf (geo g) n + (2 + k)))
+    let e = getD-drop 2 (sector (sectorsOf g image) n) k 0 ∙ byte-cut (form g) (geo g) (each-once (i .valid)) image n (2 + k) (omega (arith, i .valid .total)) (omega arith) in
+    omega (arith, e, small (startOf (form g) (geo g) n + (2 + k)))
 
 -- ---- how a sector is filled
 

@@ -1,8 +1,10 @@
 // Reading a load module back: whether a file's sectors hold one, its numbers, and its bytes; and read, the public call.
 use disc::Geometry;
 use disc::Link;
+use disc::Sector;
 use disc::SectorNo;
 use disc::Sized;
+use disc::Stated;
 use lookup::Judged;
 ghost use mathlib.Core.Path.{_≡_};
 ghost use Prim.Native.Nat.{min, _+_, _-_, _≤_, _<_};
@@ -10,13 +12,13 @@ ghost use mathlib.Core.Bool.{true, _&&_, cond};
 ghost use lib.ListN.{length, drop};
 ghost use lib.Dec.{eqb, leb};
 ghost use Rattle.format.specs.Lists.{all, front};
-ghost use Rattle.format.specs.Geometry.{ten, go, sector};
+ghost use Rattle.format.specs.Geometry.{go, sector};
 ghost use Rattle.format.specs.Layout.{slotsEach, lengthOf, slotAt, linkOf};
 ghost use Rattle.format.specs.Modules.{plain};
 ghost use Rattle.format.specs.Effects.{reading};
 ghost use Rattle.format.specs.Calls.{readOn, readAnswerBy, afterRead};
 ghost use Rattle.soundness.specs.Filed.{GoodChain};
-ghost use Rattle.disc.specs.Meaning.{geo, sectorsOf, Image};
+ghost use Rattle.disc.specs.Meaning.{kindOf, geo, sectorsOf, Image, Lies};
 ghost use Rattle.reading.specs.Plain.{filled, headed, laterFilled};
 ghost use Rattle.reading.specs.Meaning.{notPlain, headerOf, bytesIn, numbersIn, leads, bodyOf, fileBodies, bodiesAfter, File, Copied};
 ghost use Rattle.reading.specs.Answer.{readAnswer, refusal, fileOn};
@@ -58,12 +60,12 @@ fn saturating_sub(a: usize, b: usize) -> usize
     a - b
 }
 
-// Whether the bytes of sector n from place k on are zero.
-fn zero_from(image: &[u8], g: Geometry, n: SectorNo, k: usize) -> bool
-    requires { ⌜ Image g (now image) × (n .0 < g .sectors) × (k ≤ 256) ⌝ }
-    ensures { λ r. ⌜ r ≡ all (eqb 0) (drop k (sector (sectorsOf g (now (image .entry))) (n .0))) ⌝ }
+// Whether the bytes of sector s from place k on are zero.
+fn zero_from(image: &[u8], g: Geometry, s: Sector, k: usize) -> bool
+    requires { ⌜ Image g (now image) × Lies g s × (k ≤ 256) ⌝ }
+    ensures { λ r. ⌜ r ≡ all (eqb 0) (drop k (sector (sectorsOf g (now (image .entry))) (s .number .0))) ⌝ }
 {
-    let start = disc::start_of(g, n);
+    let start = s.start;
     let mut i = k;
     while i < 256 {
         if image[start + i] != 0 {
@@ -74,16 +76,16 @@ fn zero_from(image: &[u8], g: Geometry, n: SectorNo, k: usize) -> bool
     true
 }
 
-// Whether sector n is filled from its length byte at place k on, where so many bytes are left.
-fn filled_at(image: &[u8], g: Geometry, n: SectorNo, k: usize, left: usize) -> bool
-    requires { ⌜ Image g (now image) × (n .0 < g .sectors) × (k < 256) ⌝ }
-    ensures { λ r. ⌜ r ≡ filled left (drop k (sector (sectorsOf g (now (image .entry))) (n .0))) ⌝ }
+// Whether sector s is filled from its length byte at place k on, where so many bytes are left.
+fn filled_at(image: &[u8], g: Geometry, s: Sector, k: usize, left: usize) -> bool
+    requires { ⌜ Image g (now image) × Lies g s × (k < 256) ⌝ }
+    ensures { λ r. ⌜ r ≡ filled left (drop k (sector (sectorsOf g (now (image .entry))) (s .number .0))) ⌝ }
 {
     let size = min(left, 255 - k);
-    if disc::byte_of(image, g, n, k) as usize != size {
+    if disc::byte_in(image, g, s, k) as usize != size {
         return false;
     }
-    zero_from(image, g, n, k + 1 + size)
+    zero_from(image, g, s, k + 1 + size)
 }
 
 // Whether a first sector can begin with $FF in place of `mark` and these numbers.
@@ -114,14 +116,14 @@ fn numbers_of(image: &[u8], g: Geometry, n: SectorNo) -> Header
     }
 }
 
-// The header in sector n, if it is the first of a module that takes `count` sectors.
-fn first_header(image: &[u8], g: Geometry, n: SectorNo, count: usize) -> Header
-    requires { ⌜ Image g (now image) × (n .0 < g .sectors) ⌝ }
+// The header in sector s, if it is the first of a module that takes `count` sectors.
+fn first_header(image: &[u8], g: Geometry, s: Sector, count: usize) -> Header
+    requires { ⌜ Image g (now image) × Lies g s ⌝ }
     ensures { λ r. do
-      let b = bodyOf g (now (image .entry)) (n .0)
+      let b = bodyOf g (now (image .entry)) (s .number .0)
       ⌜ r ≡ cond (headed b count) (numbersIn b) notPlain ⌝ }
 {
-    let header = numbers_of(image, g, n);
+    let header = numbers_of(image, g, s.number);
     let length = header.length as usize;
     if !header.ok {
         return NOT_PLAIN;
@@ -129,33 +131,33 @@ fn first_header(image: &[u8], g: Geometry, n: SectorNo, count: usize) -> Header
     if modules::sectors_for(length) != count {
         return NOT_PLAIN;
     }
-    if !filled_at(image, g, n, 10, length) {
+    if !filled_at(image, g, s, 10, length) {
         return NOT_PLAIN;
     }
     header
 }
 
-// The sector that the link of sector n leads to. The caller knows that it leads to one, so the link is not tested.
-fn next_of(image: &[u8], g: Geometry, n: SectorNo) -> SectorNo
-    requires { ⌜ Image g (now image) × (n .0 < g .sectors) × (leads (linkOf (geo g) (sector (sectorsOf g (now image)) (n .0))) ≡ true) ⌝ }
-    ensures { λ r. ⌜ (go (r .0) ≡ linkOf (geo g) (sector (sectorsOf g (now (image .entry))) (n .0))) × (r .0 < g .sectors) ⌝ }
+// The sector that the link of sector s leads to. The caller knows that it leads to one, so the link is not tested.
+fn next_of(image: &[u8], g: Geometry, s: Sector) -> Sector
+    requires { ⌜ Image g (now image) × Lies g s × (leads (linkOf (geo g) (sector (sectorsOf g (now image)) (s .number .0))) ≡ true) ⌝ }
+    ensures { λ r. ⌜ (go (r .number .0) ≡ linkOf (geo g) (sector (sectorsOf g (now (image .entry))) (s .number .0))) × Lies g r ⌝ }
 {
-    let track = disc::byte_of(image, g, n, 0);
-    let sector = disc::byte_of(image, g, n, 1);
-    disc::number_of(g, track as usize, sector as usize)
+    let track = disc::byte_in(image, g, s, 0);
+    let sector = disc::byte_in(image, g, s, 1);
+    disc::sector_at(g, track as usize, sector as usize)
 }
 
 // Whether the sectors after the first of a file are filled with what is left of a module of so many bytes.
-fn later_filled(image: &[u8], g: Geometry, first: SectorNo, count: usize, length: usize) -> bool
-    requires { ⌜ File g (now image) (first .0) count ⌝ }
-    ensures { λ r. ⌜ r ≡ laterFilled (length - 245) (bodiesAfter g (now (image .entry)) (first .0) (count - 1)) ⌝ }
+fn later_filled(image: &[u8], g: Geometry, first: Sector, count: usize, length: usize) -> bool
+    requires { ⌜ File g (now image) (first .number .0) count × Lies g first ⌝ }
+    ensures { λ r. ⌜ r ≡ laterFilled (length - 245) (bodiesAfter g (now (image .entry)) (first .number .0) (count - 1)) ⌝ }
 {
     let mut left = saturating_sub(length, 245);
-    let mut n = first;
+    let mut s = first;
     let mut j: usize = 1;
     while j < count {
-        n = next_of(image, g, n);
-        if !filled_at(image, g, n, 2, left) {
+        s = next_of(image, g, s);
+        if !filled_at(image, g, s, 2, left) {
             return false;
         }
         left = saturating_sub(left, 253);
@@ -165,9 +167,9 @@ fn later_filled(image: &[u8], g: Geometry, first: SectorNo, count: usize, length
 }
 
 // The header of the module in a file of `count` sectors from `first` on.
-fn plain_header(image: &[u8], g: Geometry, first: SectorNo, count: usize) -> Header
-    requires { ⌜ File g (now image) (first .0) count ⌝ }
-    ensures { λ r. ⌜ r ≡ headerOf (plain (fileBodies g (now (image .entry)) (first .0) count)) ⌝ }
+fn plain_header(image: &[u8], g: Geometry, first: Sector, count: usize) -> Header
+    requires { ⌜ File g (now image) (first .number .0) count × Lies g first ⌝ }
+    ensures { λ r. ⌜ r ≡ headerOf (plain (fileBodies g (now (image .entry)) (first .number .0) count)) ⌝ }
 {
     let header = first_header(image, g, first, count);
     if !header.ok {
@@ -179,20 +181,20 @@ fn plain_header(image: &[u8], g: Geometry, first: SectorNo, count: usize) -> Hea
     header
 }
 
-// Copies the bytes of sector n from place k on into the buffer from place `at` on, up to its place `end`. Gives the place after them.
+// Copies the bytes of sector s from place k on into the buffer from place `at` on, up to its place `end`. Gives the place after them.
 fn copy_part(
     image: &[u8],
     g: Geometry,
-    n: SectorNo,
+    s: Sector,
     k: usize,
     buffer: &mut [u8],
     at: usize,
     end: usize,
 ) -> usize
-    requires { ⌜ Image g (now image) × (n .0 < g .sectors) × (k ≤ 256) × (at ≤ end) × (end ≤ length (now buffer)) ⌝ }
-    ensures { λ r. ⌜ Copied (sector (sectorsOf g (now (image .entry))) (n .0)) k (now (buffer .entry)) (now (buffer .exit)) at end r ⌝ }
+    requires { ⌜ Image g (now image) × Lies g s × (k ≤ 256) × (at ≤ end) × (end ≤ length (now buffer)) ⌝ }
+    ensures { λ r. ⌜ Copied (sector (sectorsOf g (now (image .entry))) (s .number .0)) k (now (buffer .entry)) (now (buffer .exit)) at end r ⌝ }
 {
-    let start = disc::start_of(g, n) + k;
+    let start = s.start + k;
     let size = min(end - at, 256 - k);
     let mut i: usize = 0;
     while i < size {
@@ -206,20 +208,21 @@ fn copy_part(
 fn copy_module(
     image: &[u8],
     g: Geometry,
-    first: SectorNo,
+    first: Sector,
     count: usize,
     size: usize,
     buffer: &mut [u8],
 )
-    requires { ⌜ File g (now image) (first .0) count × (size ≡ headerOf (plain (fileBodies g (now image) (first .0) count)) .length) × (size ≤ length (now buffer)) ⌝ }
-    ensures { λ _. ⌜ now (buffer .exit) ≡ front (bytesIn (plain (fileBodies g (now (image .entry)) (first .0) count))) (now (buffer .entry)) ⌝ }
+    requires { ⌜ File g (now image) (first .number .0) count
+        × (size ≡ headerOf (plain (fileBodies g (now image) (first .number .0) count)) .length) × (size ≤ length (now buffer)) × Lies g first ⌝ }
+    ensures { λ _. ⌜ now (buffer .exit) ≡ front (bytesIn (plain (fileBodies g (now (image .entry)) (first .number .0) count))) (now (buffer .entry)) ⌝ }
 {
     let mut at = copy_part(image, g, first, 11, buffer, 0, size);
-    let mut n = first;
+    let mut s = first;
     let mut j: usize = 1;
     while j < count {
-        n = next_of(image, g, n);
-        at = copy_part(image, g, n, 3, buffer, at, size);
+        s = next_of(image, g, s);
+        at = copy_part(image, g, s, 3, buffer, at, size);
         j += 1;
     }
 }
@@ -259,7 +262,8 @@ fn read_module(
     requires { ⌜ File g (now image) (first .0) count ⌝ }
     ensures { λ r. ⌜ readAnswer r (now (buffer .exit)) ≡ readAnswerBy (now (buffer .entry)) (fileOn (plain (fileBodies g (now (image .entry)) (first .0) count)) (length (now (buffer .entry)))) ⌝ }
 {
-    let header = plain_header(image, g, first, count);
+    let at = disc::sector_of(g, first);
+    let header = plain_header(image, g, at, count);
     if !header.ok {
         return refused(refusals::NOT_PLAIN);
     }
@@ -267,7 +271,7 @@ fn read_module(
     if buffer.len() < size {
         return refused(refusals::SHORT);
     }
-    copy_module(image, g, first, count, size, buffer);
+    copy_module(image, g, at, count, size, buffer);
     Reading {
         number: refusals::DONE,
         page: header.page as u32,
@@ -306,10 +310,10 @@ fn read_on(image: &[u8], g: Geometry, name: &[u8], buffer: &mut [u8]) -> Reading
     }
 }
 
-pub fn read(image: &[u8], name: &[u8], buffer: &mut [u8]) -> Reading
-    ensures { λ r. ⌜ readAnswer r (now (buffer .exit)) ≡ afterRead ten (now (image .entry)) (now (name .entry)) (now (buffer .entry)) ⌝ }
+pub fn read(image: &[u8], stated: Stated, name: &[u8], buffer: &mut [u8]) -> Reading
+    ensures { λ r. ⌜ readAnswer r (now (buffer .exit)) ≡ afterRead (kindOf stated) (now (image .entry)) (now (name .entry)) (now (buffer .entry)) ⌝ }
 {
-    match disc::geometry_of(image.len()) {
+    match disc::geometry_of(stated, image.len()) {
         Sized::Wrong => refused(refusals::SIZE),
         Sized::Of(g) => read_on(image, g, name, buffer),
     }

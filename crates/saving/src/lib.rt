@@ -5,6 +5,7 @@ use disc::Geometry;
 use disc::Link;
 use disc::SectorNo;
 use disc::Sized;
+use disc::Stated;
 use modules::Numbers;
 use names::Name;
 ghost use mathlib.Core.Path.{_≡_};
@@ -15,7 +16,7 @@ ghost use Prim.Native.Nat.{_+_, _-_, _<_};
 ghost use lib.Dec.{leb, ltb};
 ghost use lib.ListN.{length, replicate, set};
 ghost use Rattle.format.specs.Lists.{word};
-ghost use Rattle.format.specs.Geometry.{ten, stop, go, written};
+ghost use Rattle.format.specs.Geometry.{stop, go, written};
 ghost use Rattle.format.specs.Names.{legalStored};
 ghost use Rattle.format.specs.Layout.{slotsEach, linkPlace, attribute, freeCount, slotAt, linkBytes, pairBytes, freePointer, free, openSlot};
 ghost use Rattle.format.specs.Check.{sound};
@@ -23,7 +24,7 @@ ghost use Rattle.format.specs.Modules.{sectorsFor};
 ghost use Rattle.format.specs.ModuleLaws.{Allowed};
 ghost use Rattle.format.specs.Effects.{withSlot, growth, saveWrites};
 ghost use Rattle.format.specs.Calls.{answered, saveOn, afterSave};
-ghost use Rattle.disc.specs.Meaning.{geo, meaning, sectorsOf, storedAt, Valid, Inside, Image};
+ghost use Rattle.disc.specs.Meaning.{kindOf, geo, meaning, sectorsOf, storedAt, Valid, Inside, Image};
 ghost use Rattle.modules.specs.Meaning.{moduleOf};
 ghost use Rattle.directory.specs.Meaning.{Finds};
 ghost use Rattle.lookup.specs.Meaning.{Leaves};
@@ -275,15 +276,17 @@ fn save_on(
 
 pub fn save(
     image: &mut [u8],
+    stated: Stated,
     name: &[u8],
     page: u32,
     start: u16,
     transfer: u16,
     sheet: &[u8],
 ) -> u32
-    ensures { λ r. ⌜ answered r (now (image .exit)) ≡ afterSave ten (now (image .entry)) (now (name .entry)) (handed page start transfer (now (sheet .entry))) ⌝ }
+    ensures { λ r. ⌜ answered r (now (image .exit)) ≡ afterSave (kindOf stated) (now (image .entry))
+        (now (name .entry)) (handed page start transfer (now (sheet .entry))) ⌝ }
 {
-    match disc::geometry_of(image.len()) {
+    match disc::geometry_of(stated, image.len()) {
         Sized::Wrong => refusals::SIZE,
         Sized::Of(g) => save_on(image, g, name, page, start, transfer, sheet),
     }

@@ -9,11 +9,12 @@ use mathlib.Core.List.{List}
 use lib.ListN.{length, take, drop, length-drop, drop-of-length-le}
 use lib.Seq.{drop-cons, take-take, drop-drop, length-take-le, getD-take, getD-drop}
 use borrow.Author.Tests.{eq-eqb, ne-eqb}
+use Rattle.disc.specs.Laws.{each-once, start-fits}
 use Rattle.format.specs.Lists.{byte, same}
 use Rattle.format.specs.ListLaws.{drop-take}
 use Rattle.format.specs.Geometry.{startOf, sector, Disc}
 use Rattle.format.specs.GeometryLaws.{sector-cut}
-use Rattle.disc.specs.Meaning.{geo, sectorsOf, Image}
+use Rattle.disc.specs.Meaning.{geo, sectorsOf, Image, form}
 use Rattle.disc.specs.declared.Geometry.{Geometry}
 use Rattle.format.specs.Layout.{slotsEach, slotStart, slotAt, nameOf}
 
@@ -32,11 +33,11 @@ module _ (xs ys : List ℕ) (i : ℕ) where
 -- ---- a part of a sector is a part of its image
 
 pub part-cut : {g : Geometry} {image : List ℕ} → Image g image → (n k L : ℕ) → n < g .sectors → k + L ≤ 256
-    → take L (drop (startOf (geo g) n + k) image) ≡ take L (drop k (sector (sectorsOf g image) n))
+    → take L (drop (startOf (form g) (geo g) n + k) image) ≡ take L (drop k (sector (sectorsOf g image) n))
 part-cut {g} {image} i n k L on fits =
-    let from : ℕ = startOf (geo g) n in
+    let from : ℕ = startOf (form g) (geo g) n in
     let rest : k + (256 - k) ≡ 256 = omega arith in
-    sym (ap (λ (s : List ℕ). take L (drop k s)) (sector-cut (geo g) image n (omega (arith, i .valid .total)))
+    sym (ap (λ (s : List ℕ). take L (drop k s)) (sector-cut (form g) (geo g) (each-once (i .valid)) image n (omega (arith, i .valid .total)))
     ∙ ap (λ (m : ℕ). take L (drop k (take m (drop from image)))) (sym rest)
     ∙ ap (take L) (drop-take k (256 - k) (drop from image))
     ∙ take-take L (256 - k) (drop k (drop from image)) (omega arith)
@@ -59,6 +60,6 @@ name-front d n i = take-take 9 16 (drop (slotStart i) (sector d n)) (omega arith
 
 pub name-nine : {g : Geometry} {image : List ℕ} → Image g image → (n i : ℕ) → n < g .sectors → i < slotsEach → length (nameOf (slotAt (sectorsOf g image) n i)) ≡ 9
 name-nine {g} {image} im n i on h =
-    let from : ℕ = startOf (geo g) n + slotStart i in
+    let from : ℕ = startOf (form g) (geo g) n + slotStart i in
     ap length (name-front (sectorsOf g image) n i ∙ sym (part-cut im n (slotStart i) 9 on (omega arith)))
-    ∙ part-long image from 9 (omega (arith, im .long))
+    ∙ part-long image from 9 (omega (arith, start-fits im n on))

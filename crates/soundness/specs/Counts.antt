@@ -7,8 +7,8 @@ use native.Mathlib.Decide.{decLe, ℕ-discrete}
 use mathlib.Core.Bool.{Bool, not, true, false, false≢true, true≢false}
 use mathlib.Core.List.{List, [], _∷_, _++_}
 use lib.ListN.{length, length-append}
-use Rattle.format.specs.Lists.{elem, consIf, filter, range, times, lastOr}
-use Rattle.format.specs.ListLaws.{zero-or, All, filter-yes, filter-no, all-filter, filter-all, times-none, times-join, times-here, times-past, all-at, times-elem, none-elem, Once, once-long, range-all, last-in}
+use Rattle.format.specs.Lists.{elem, consIf, filter, range, times, lastOr, Once}
+use Rattle.format.specs.ListLaws.{zero-or, All, filter-yes, filter-no, all-filter, filter-all, times-none, times-join, times-here, times-past, all-at, times-elem, none-elem, once-long, range-all, last-in}
 
 -- what stands in a list stands in the list with one more
 pub times-more : (n m : ℕ) (xs : List ℕ) → 0 < times n xs → 0 < times n (m ∷ xs)

@@ -9,8 +9,8 @@ use mathlib.Core.Bool.{not, true}
 use mathlib.Core.List.{List, _∷_, map, _++_}
 use lib.ListN.{length, length-append}
 use borrow.Author.Tests.{eqb-true, eq-eqb}
-use Rattle.format.specs.Lists.{all, elem, distinct, range, sum, times}
-use Rattle.format.specs.ListLaws.{and-true, true-and, All, all-join, all-true, true-all, times-join, times-here, times-past, elem-times, times-elem, none-elem, distinct-once, once-distinct, Once, once-long, all-range, range-all}
+use Rattle.format.specs.Lists.{all, elem, distinct, range, sum, times, Once}
+use Rattle.format.specs.ListLaws.{and-true, true-and, All, all-join, all-true, true-all, times-join, times-here, times-past, elem-times, times-elem, none-elem, distinct-once, once-distinct, once-long, all-range, range-all}
 use Rattle.format.specs.Geometry.{Geometry, sectors, Disc}
 use Rattle.format.specs.GeometryLaws.{pointed-on}
 use Rattle.format.specs.Layout.{freeCount, usedCount, lengthOf, freePointer, directory, free, slots, entries, fileSectors}

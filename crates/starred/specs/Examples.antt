@@ -9,7 +9,8 @@ use mathlib.Core.Option.{some}
 use mathlib.Core.List.{List, [], _∷_, map}
 use lib.ListN.{length, take, drop, replicate}
 use Rattle.format.specs.Refusals.{_>>=_, _>>_, refuse_if_, _orRefuse_, number, valueOr}
-use Rattle.format.specs.Geometry.{Geometry, Disc, ten, tracked, geometry, sectorNumber, pointed, chunks, cut, flat, sector}
+use Rattle.format.specs.Geometry.{Geometry, Disc, ten, tracked, geometry, sectorNumber, pointed, placeOf, sectorAt, chunks, reordered, cut, flat, sector}
+use Rattle.format.specs.MovingLaws.{ten-arranged}
 use Rattle.format.specs.GeometryLaws.{sector-cut}
 use Rattle.format.specs.Names.{letter, letters, beforeDot, afterDot, withExtension, stored, discName, spaced, legalStored}
 use Rattle.format.specs.Layout.{freeCount, emptySlot, freeSlot, inUse, slotAt, slotsAt, slotsOf, met, ends, directory, free, slots, entries, openSlot, find, fileChain, fileSectors}
@@ -52,7 +53,7 @@ forty : Geometry
 forty = tracked ten 40
 
 disc40 : Disc
-disc40 = cut forty afterThursday
+disc40 = cut ten forty afterThursday
 
 -- track and sector, written t/s in the document
 infix 80 _/:_
@@ -73,15 +74,15 @@ record Starred : Type 0 where
   takes-246 : sectorsFor 246 ≡ 2
   takes-498 : sectorsFor 498 ≡ 2
   takes-65536 : sectorsFor 65536 ≡ 260
-  starts-0-7 : (image : List ℕ) → sector (cut forty image) (0 /: 7) ≡ take 256 (drop 1536 image)
-  starts-39-10 : (image : List ℕ) → sector (cut forty image) (39 /: 10) ≡ take 256 (drop 102144 image)
-  free-40 : length (free forty (cut forty (blankOf 40))) ≡ 398
-  count-40 : freeCount (cut forty (blankOf 40)) ≡ 398
-  free-1 : length (free (tracked ten 1) (cut (tracked ten 1) (blankOf 1))) ≡ 8
-  count-1 : freeCount (cut (tracked ten 1) (blankOf 1)) ≡ 8
+  starts-0-7 : (image : List ℕ) → sector (cut ten forty image) (0 /: 7) ≡ take 256 (drop 1536 image)
+  starts-39-10 : (image : List ℕ) → sector (cut ten forty image) (39 /: 10) ≡ take 256 (drop 102144 image)
+  free-40 : length (free forty (cut ten forty (blankOf 40))) ≡ 398
+  count-40 : freeCount (cut ten forty (blankOf 40)) ≡ 398
+  free-1 : length (free (tracked ten 1) (cut ten (tracked ten 1) (blankOf 1))) ≡ 8
+  count-1 : freeCount (cut ten (tracked ten 1) (blankOf 1)) ≡ 8
   fits-2016 : afterSave ten (blankOf 1) (text "A") (moduleOf 0 2016) .number ≡ 0
   room-2017 : afterSave ten (blankOf 1) (text "A") (moduleOf 0 2017) .number ≡ 8
-  chain-begins : take 10 (free forty (cut forty (blankOf 40)))
+  chain-begins : take 10 (free forty (cut ten forty (blankOf 40)))
       ≡ (0 /: 7 ∷ 0 /: 10 ∷ 0 /: 3 ∷ 0 /: 6 ∷ 0 /: 9 ∷ 0 /: 2 ∷ 0 /: 5 ∷ 0 /: 8 ∷ 1 /: 1 ∷ 1 /: 4 ∷ [])
   saved-sectors : map (fileChain forty disc40) (entries forty disc40) ≡ ((0 /: 7 ∷ 0 /: 10 ∷ []) ∷ [])
   saved-end : take 2 (drop 6 (sector disc40 (0 /: 7))) ≡ (0x2B ∷ 0x21 ∷ [])
@@ -98,7 +99,7 @@ record Starred : Type 0 where
       }
 
 starred : Starred
-unfolding _>>=_ _>>_ refuse_if_ _orRefuse_ number valueOr ten geometry pointed chunks cut flat letter letters beforeDot afterDot withExtension stored discName spaced legalStored emptySlot freeSlot inUse slotAt slotsAt slotsOf met ends directory free slots entries openSlot find fileChain fileSectors goodEntry differ rule1 rule2 counted rule3 rule4 goodChain rule5 rule6 rule7 rule8 broken allowed sectorsFor firstBody laterBody laterBodies bodies guessed plain withSlot chained systemWrite entryBytes growth needed entryWrites saveWrites deleteWrites reading listing passing version blankFree blankSystem blankDisc listOn readOn saveBeforeOn saveOn deleteOn renameOn protectOn asked changed blank answerBy listAnswerBy readAnswerBy afterList afterRead afterSave afterDelete afterRename afterProtect afterBlank blankOf moduleOf answers afterThursday forty disc40 _/:_
+unfolding _>>=_ _>>_ refuse_if_ _orRefuse_ number valueOr ten geometry pointed placeOf sectorAt chunks reordered cut flat letter letters beforeDot afterDot withExtension stored discName spaced legalStored emptySlot freeSlot inUse slotAt slotsAt slotsOf met ends directory free slots entries openSlot find fileChain fileSectors goodEntry differ rule1 rule2 counted rule3 rule4 goodChain rule5 rule6 rule7 rule8 broken allowed sectorsFor firstBody laterBody laterBodies bodies guessed plain withSlot chained systemWrite entryBytes growth needed entryWrites saveWrites deleteWrites reading listing passing version blankFree blankSystem blankDisc listOn readOn saveBeforeOn saveOn deleteOn renameOn protectOn asked changed blank answerBy listAnswerBy readAnswerBy afterList afterRead afterSave afterDelete afterRename afterProtect afterBlank blankOf moduleOf answers afterThursday forty disc40 _/:_
 starred =
     record {
       name-X = refl;
@@ -112,8 +113,8 @@ starred =
       takes-246 = refl;
       takes-498 = refl;
       takes-65536 = refl;
-      starts-0-7 = λ image. sector-cut forty image (0 /: 7) (omega arith);
-      starts-39-10 = λ image. sector-cut forty image (39 /: 10) (omega arith);
+      starts-0-7 = λ image. sector-cut ten forty ten-arranged image (0 /: 7) (omega arith);
+      starts-39-10 = λ image. sector-cut ten forty ten-arranged image (39 /: 10) (omega arith);
       free-40 = refl;
       count-40 = refl;
       free-1 = refl;

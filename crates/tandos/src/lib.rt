@@ -1,11 +1,12 @@
 // The calls as C sees them (include/tandos.h). Each is thin: its contract is the equation of document 01's call, and the work is
 // done below. A slice is a pointer and a length.
+use disc::Stated;
 use fsck::Checked;
 use listing::Listed;
 use reading::Reading;
 ghost use mathlib.Core.Path.{_≡_};
-ghost use Rattle.format.specs.Geometry.{ten};
-ghost use Rattle.format.specs.Calls.{answered, afterCheck, afterList, afterRead, afterSave, afterDelete, afterRename, afterProtect, afterBlank, viewNumber};
+ghost use Rattle.format.specs.Geometry.{stated};
+ghost use Rattle.format.specs.Calls.{answered, afterCheck, afterList, afterRead, afterSave, afterDelete, afterRename, afterProtect, afterBlank, viewNumber, viewPart};
 ghost use Rattle.listing.specs.Meaning.{listAnswer};
 ghost use Rattle.reading.specs.Answer.{readAnswer};
 ghost use Rattle.saving.specs.Meaning.{handed};
@@ -19,10 +20,11 @@ pub struct CheckNumbers {
 }
 
 #[no_mangle]
-pub extern "C" fn tandos_check(image: &[u8]) -> CheckNumbers
-    ensures { λ r. ⌜ checkAnswer r ≡ afterCheck ten (now (image .entry)) ⌝ }
+pub extern "C" fn tandos_check(image: &[u8], arrangement: u32) -> CheckNumbers
+    ensures { λ r. ⌜ checkAnswer r ≡ afterCheck (stated arrangement) (now (image .entry)) ⌝ }
 {
-    match fsck::check(image) {
+    let kind = Stated { arrangement };
+    match fsck::check(image, kind) {
         Checked::Size => CheckNumbers {
             number: refusals::SIZE,
             rule: 0,
@@ -39,65 +41,89 @@ pub extern "C" fn tandos_check(image: &[u8]) -> CheckNumbers
 }
 
 #[no_mangle]
-pub extern "C" fn tandos_list(image: &[u8], buffer: &mut [u8]) -> Listed
-    ensures { λ r. ⌜ listAnswer r (now (buffer .exit)) ≡ afterList ten (now (image .entry)) (now (buffer .entry)) ⌝ }
+pub extern "C" fn tandos_list(image: &[u8], arrangement: u32, buffer: &mut [u8]) -> Listed
+    ensures { λ r. ⌜ listAnswer r (now (buffer .exit)) ≡ afterList (stated arrangement) (now (image .entry)) (now (buffer .entry)) ⌝ }
 {
-    listing::list(image, buffer)
+    let kind = Stated { arrangement };
+    listing::list(image, kind, buffer)
 }
 
 #[no_mangle]
-pub extern "C" fn tandos_read(image: &[u8], name: &[u8], buffer: &mut [u8]) -> Reading
-    ensures { λ r. ⌜ readAnswer r (now (buffer .exit)) ≡ afterRead ten (now (image .entry)) (now (name .entry)) (now (buffer .entry)) ⌝ }
+pub extern "C" fn tandos_read(
+    image: &[u8],
+    arrangement: u32,
+    name: &[u8],
+    buffer: &mut [u8],
+) -> Reading
+    ensures { λ r. ⌜ readAnswer r (now (buffer .exit)) ≡ afterRead (stated arrangement) (now (image .entry)) (now (name .entry)) (now (buffer .entry)) ⌝ }
 {
-    reading::read(image, name, buffer)
+    let kind = Stated { arrangement };
+    reading::read(image, kind, name, buffer)
 }
 
 #[no_mangle]
 pub extern "C" fn tandos_save(
     image: &mut [u8],
+    arrangement: u32,
     name: &[u8],
     page: u32,
     start: u16,
     transfer: u16,
     sheet: &[u8],
 ) -> u32
-    ensures { λ r. ⌜ answered r (now (image .exit)) ≡ afterSave ten (now (image .entry)) (now (name .entry)) (handed page start transfer (now (sheet .entry))) ⌝ }
+    ensures { λ r. ⌜ answered r (now (image .exit)) ≡ afterSave (stated arrangement) (now (image .entry))
+        (now (name .entry)) (handed page start transfer (now (sheet .entry))) ⌝ }
 {
-    saving::save(image, name, page, start, transfer, sheet)
+    let kind = Stated { arrangement };
+    saving::save(image, kind, name, page, start, transfer, sheet)
 }
 
 #[no_mangle]
-pub extern "C" fn tandos_delete(image: &mut [u8], name: &[u8]) -> u32
-    ensures { λ r. ⌜ answered r (now (image .exit)) ≡ afterDelete ten (now (image .entry)) (now (name .entry)) ⌝ }
+pub extern "C" fn tandos_delete(image: &mut [u8], arrangement: u32, name: &[u8]) -> u32
+    ensures { λ r. ⌜ answered r (now (image .exit)) ≡ afterDelete (stated arrangement) (now (image .entry)) (now (name .entry)) ⌝ }
 {
-    commands::delete(image, name)
+    let kind = Stated { arrangement };
+    commands::delete(image, kind, name)
 }
 
 #[no_mangle]
-pub extern "C" fn tandos_rename(image: &mut [u8], old: &[u8], new: &[u8]) -> u32
-    ensures { λ r. ⌜ answered r (now (image .exit)) ≡ afterRename ten (now (image .entry)) (now (old .entry)) (now (new .entry)) ⌝ }
+pub extern "C" fn tandos_rename(image: &mut [u8], arrangement: u32, old: &[u8], new: &[u8]) -> u32
+    ensures { λ r. ⌜ answered r (now (image .exit)) ≡ afterRename (stated arrangement) (now (image .entry)) (now (old .entry)) (now (new .entry)) ⌝ }
 {
-    commands::rename(image, old, new)
+    let kind = Stated { arrangement };
+    commands::rename(image, kind, old, new)
 }
 
 #[no_mangle]
-pub extern "C" fn tandos_protect(image: &mut [u8], name: &[u8], on: u32) -> u32
-    ensures { λ r. ⌜ answered r (now (image .exit)) ≡ afterProtect ten (now (image .entry)) (now (name .entry)) on ⌝ }
+pub extern "C" fn tandos_protect(image: &mut [u8], arrangement: u32, name: &[u8], on: u32) -> u32
+    ensures { λ r. ⌜ answered r (now (image .exit)) ≡ afterProtect (stated arrangement) (now (image .entry)) (now (name .entry)) on ⌝ }
 {
-    commands::protect(image, name, on)
+    let kind = Stated { arrangement };
+    commands::protect(image, kind, name, on)
 }
 
 #[no_mangle]
-pub extern "C" fn tandos_blank(image: &mut [u8], name: &[u8]) -> u32
-    ensures { λ r. ⌜ answered r (now (image .exit)) ≡ afterBlank ten (now (image .entry)) (now (name .entry)) ⌝ }
+pub extern "C" fn tandos_blank(image: &mut [u8], arrangement: u32, name: &[u8]) -> u32
+    ensures { λ r. ⌜ answered r (now (image .exit)) ≡ afterBlank (stated arrangement) (now (image .entry)) (now (name .entry)) ⌝ }
 {
-    blank::blank(image, name)
+    let kind = Stated { arrangement };
+    blank::blank(image, kind, name)
 }
 
-// The number of a view with these arguments; the view itself is a part of the image, which C finds by itself.
+// The number of a view with these arguments.
 #[no_mangle]
-pub extern "C" fn tandos_view_number(image: &[u8], track: u32, sector: u32) -> u32
-    ensures { λ r. ⌜ r ≡ viewNumber ten (now (image .entry)) track sector ⌝ }
+pub extern "C" fn tandos_view_number(image: &[u8], arrangement: u32, track: u32, sector: u32) -> u32
+    ensures { λ r. ⌜ r ≡ viewNumber (stated arrangement) (now (image .entry)) track sector ⌝ }
 {
-    view::view_number(image, track, sector)
+    let kind = Stated { arrangement };
+    view::view_number(image, kind, track, sector)
+}
+
+// Where a view with these arguments starts in the image; C adds it to the image's address.
+#[no_mangle]
+pub extern "C" fn tandos_view_start(image: &[u8], arrangement: u32, track: u32, sector: u32) -> u32
+    ensures { λ r. ⌜ r ≡ viewPart (stated arrangement) (now (image .entry)) track sector .at ⌝ }
+{
+    let kind = Stated { arrangement };
+    view::view_start(image, kind, track, sector)
 }

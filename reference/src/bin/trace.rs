@@ -6,13 +6,17 @@
 //! trace refused SEED COUNT MAX_TRACKS    runs on damaged images
 //! ```
 //!
+//! In front of these may stand `--arrangement N`, the number stated with every
+//! call: 0 plain, as without it, or 1 moved. With any other number, the images
+//! are plain and every call is refused.
+//!
 //! Fields are parted by one space. HEX is two digits a byte, upper case, and
 //! `-` for no bytes; every other field is decimal. A run begins with
 //!
 //! ```text
-//! image HEX            the starting image, all bytes
-//! check NUMBER RULE    its check
-//! moment ...           as after each command
+//! image ARRANGEMENT HEX    the run's arrangement; the starting image, all bytes
+//! check NUMBER RULE        its check
+//! moment ...               as after each command
 //! ```
 //!
 //! and goes on with up to twelve commands, arguments left of the `=` and
@@ -28,12 +32,14 @@
 //! rename OLD NEW = NUMBER
 //! protect NAME ON = NUMBER
 //! blank NAME = NUMBER
-//! view TRACK SECTOR = NUMBER BYTES
+//! view TRACK SECTOR = NUMBER START BYTES
 //! ```
 //!
-//! NAME, OLD, NEW, SHEET and BYTES are HEX. After each command stand the
-//! sectors of the image that it changed, ascending, by sector number
-//! 10t + s - 1 and with all 256 bytes after the call; then the moment: the
+//! NAME, OLD, NEW, SHEET and BYTES are HEX. A view's START is the position in the
+//! image of its first byte, 0 if it is refused. After each command stand the
+//! sectors of the image that it changed, with all 256 bytes after the call and
+//! ascending by sector number 10t + s - 1; that is the number on the disc, not
+//! the place in the image, which the arrangement decides. Then the moment: the
 //! image's free count, and the parts directory and files of the free-sector
 //! sum by the book of the run. `moment none` stands while the image has not
 //! been sound since the run began. An accepted blank starts the book anew.
@@ -51,7 +57,7 @@ use reference::history::Book;
 use std::io::{self, BufWriter, Write};
 use std::process::ExitCode;
 
-const USAGE: &str = "usage: trace [damaged|refused] SEED COUNT MAX_TRACKS";
+const USAGE: &str = "usage: trace [--arrangement N] [damaged|refused] SEED COUNT MAX_TRACKS";
 const MOST_COMMANDS: usize = 12;
 
 #[derive(Clone, Copy, PartialEq, Eq)]
@@ -62,6 +68,7 @@ enum Mode {
 }
 
 struct Request {
+    arrangement: u32,
     mode: Mode,
     seed: u64,
     count: usize,
@@ -88,6 +95,10 @@ fn main() -> ExitCode {
 }
 
 fn parse(arguments: &[String]) -> Option<Request> {
+    let (arrangement, arguments) = match arguments {
+        [word, number, rest @ ..] if word == "--arrangement" => (number.parse().ok()?, rest),
+        _ => (0, arguments),
+    };
     let (mode, numbers) = match arguments.first().map(String::as_str) {
         Some("damaged") => (Mode::Damaged, &arguments[1..]),
         Some("refused") => (Mode::Refused, &arguments[1..]),
@@ -95,6 +106,7 @@ fn parse(arguments: &[String]) -> Option<Request> {
     };
     match numbers {
         [seed, count, max_tracks] => Some(Request {
+            arrangement,
             mode,
             seed: seed.parse().ok()?,
             count: count.parse().ok()?,
@@ -106,33 +118,39 @@ fn parse(arguments: &[String]) -> Option<Request> {
 
 fn trace(request: &Request, out: &mut impl Write) -> io::Result<()> {
     let mut random = Random::new(request.seed);
+    let (max_tracks, arrangement) = (request.max_tracks, request.arrangement);
     for _ in 0..request.count {
         let mut image = match request.mode {
-            Mode::Sound => sound_disc(&mut random, request.max_tracks),
-            Mode::Damaged | Mode::Refused => damaged_disc(&mut random, request.max_tracks),
+            Mode::Sound => sound_disc(&mut random, max_tracks, arrangement),
+            Mode::Damaged | Mode::Refused => damaged_disc(&mut random, max_tracks, arrangement),
         };
-        let checked = reference::check(&image);
-        writeln!(out, "image {}", hex(&image))?;
+        let checked = reference::check(&image, arrangement);
+        writeln!(out, "image {arrangement} {}", hex(&image))?;
         writeln!(out, "check {} {}", checked.number, checked.rule)?;
         if request.mode != Mode::Damaged {
-            run(&mut random, &mut image, out)?;
+            run(&mut random, &mut image, arrangement, out)?;
         }
     }
     writeln!(out, "end {}", request.count)
 }
 
-fn run(random: &mut Random, image: &mut [u8], out: &mut impl Write) -> io::Result<()> {
-    let mut book = Book::start(image);
+fn run(
+    random: &mut Random,
+    image: &mut [u8],
+    arrangement: u32,
+    out: &mut impl Write,
+) -> io::Result<()> {
+    let mut book = Book::start(image, arrangement);
     print_moment(image, book.as_ref(), out)?;
     for _ in 0..random.between(1, MOST_COMMANDS) {
-        let command = command(random, image);
-        let before = image.to_vec();
-        let answer = command.run(image);
+        let command = command(random, image, arrangement);
+        let before = by_number(image, arrangement);
+        let answer = command.run(image, arrangement);
         writeln!(out, "{} = {}", arguments(&command), answers(&answer))?;
-        print_changes(&before, image, out)?;
+        print_changes(&before, &by_number(image, arrangement), out)?;
         match &mut book {
             Some(book) => book.record(&command, answer.accepted()),
-            None => book = Book::start(image),
+            None => book = Book::start(image, arrangement),
         }
         print_moment(image, book.as_ref(), out)?;
     }
@@ -142,12 +160,19 @@ fn run(random: &mut Random, image: &mut [u8], out: &mut impl Write) -> io::Resul
 fn print_moment(image: &[u8], book: Option<&Book>, out: &mut impl Write) -> io::Result<()> {
     match book {
         Some(book) => {
-            let free = u16::from_le_bytes([image[0x14], image[0x15]]);
+            let system = reference::view(image, book.arrangement(), 0, 1);
+            // A view begins with byte 2.
+            let free = u16::from_le_bytes([system[0x14 - 2], system[0x15 - 2]]);
             let (directory, files) = (book.directory(), book.file_sectors());
             writeln!(out, "moment {free} {directory} {files}")
         }
         None => writeln!(out, "moment none"),
     }
+}
+
+/// The image with its sectors by number; as it stands if no call takes it.
+fn by_number(image: &[u8], arrangement: u32) -> Vec<u8> {
+    reference::rearranged(image, arrangement, 0).unwrap_or_else(|| image.to_vec())
 }
 
 fn print_changes(before: &[u8], after: &[u8], out: &mut impl Write) -> io::Result<()> {
@@ -201,7 +226,11 @@ fn answers(answer: &Answer) -> String {
             reading.length,
             hex(buffer)
         ),
-        Answer::Viewed(number, bytes) => format!("{number} {}", hex(bytes)),
+        Answer::Viewed {
+            number,
+            start,
+            bytes,
+        } => format!("{number} {start} {}", hex(bytes)),
     }
 }
 

@@ -1,37 +1,43 @@
 //! Commands with arguments on and across every boundary.
 
 use super::files::{capacity, module_length};
-use super::{fresh_name, illegal_name, standing_names, Random};
+use super::{arrangement_made, fresh_name, illegal_name, standing_names, Random};
 use crate::command::{Buffer, Command};
 use crate::disc::{word, FREE_COUNT};
 
 /// A list of commands made for a starting image. Each is chosen with the
 /// image before it in view, so that boundaries such as a full disc are met.
-pub fn command_list(random: &mut Random, start: &[u8], count: usize) -> Vec<Command> {
+pub fn command_list(
+    random: &mut Random,
+    start: &[u8],
+    arrangement: u32,
+    count: usize,
+) -> Vec<Command> {
     let mut image = start.to_vec();
     (0..count)
         .map(|_| {
-            let command = command(random, &image);
-            command.run(&mut image);
+            let command = command(random, &image, arrangement);
+            command.run(&mut image, arrangement);
             command
         })
         .collect()
 }
 
 /// A command for an image of any length.
-pub fn command(random: &mut Random, image: &[u8]) -> Command {
+pub fn command(random: &mut Random, image: &[u8], arrangement: u32) -> Command {
+    let arrangement = arrangement_made(arrangement);
     match random.below(40) {
-        0..=11 => save(random, image),
+        0..=11 => save(random, image, arrangement),
         12..=17 => Command::Delete {
-            name: name(random, image),
+            name: name(random, image, arrangement),
         },
-        18..=22 => rename(random, image),
+        18..=22 => rename(random, image, arrangement),
         23..=26 => Command::Protect {
-            name: name(random, image),
+            name: name(random, image, arrangement),
             on: random.pick(&[0, 0, 1, 0x80, 256, u32::MAX]),
         },
-        27..=32 => read(random, image),
-        33..=35 => list(random, image),
+        27..=32 => read(random, image, arrangement),
+        33..=35 => list(random, image, arrangement),
         36 => Command::Check,
         37 if random.one_in(4) => blank(random),
         _ => view(random, image),
@@ -39,8 +45,8 @@ pub fn command(random: &mut Random, image: &[u8]) -> Command {
 }
 
 /// Mostly a standing name, sometimes an absent or illegal one.
-fn name(random: &mut Random, image: &[u8]) -> Vec<u8> {
-    let standing = standing_names(image);
+fn name(random: &mut Random, image: &[u8], arrangement: u32) -> Vec<u8> {
+    let standing = standing_names(image, arrangement);
     match random.below(10) {
         0 => illegal_name(random),
         1 | 2 => fresh_name(random),
@@ -50,25 +56,25 @@ fn name(random: &mut Random, image: &[u8]) -> Vec<u8> {
 }
 
 /// Mostly a name that may not stand yet.
-fn new_name(random: &mut Random, image: &[u8]) -> Vec<u8> {
+fn new_name(random: &mut Random, image: &[u8], arrangement: u32) -> Vec<u8> {
     if random.one_in(4) {
-        name(random, image)
+        name(random, image, arrangement)
     } else {
         fresh_name(random)
     }
 }
 
-fn rename(random: &mut Random, image: &[u8]) -> Command {
-    let old = name(random, image);
+fn rename(random: &mut Random, image: &[u8], arrangement: u32) -> Command {
+    let old = name(random, image, arrangement);
     let new = if random.one_in(8) {
         old.clone()
     } else {
-        new_name(random, image)
+        new_name(random, image, arrangement)
     };
     Command::Rename { old, new }
 }
 
-fn save(random: &mut Random, image: &[u8]) -> Command {
+fn save(random: &mut Random, image: &[u8], arrangement: u32) -> Command {
     let start = match random.below(4) {
         0 => random.pick(&[0, 1, 0x2000, 0xFFFF, 0xFF00]),
         _ => random.draw() as u16,
@@ -79,7 +85,7 @@ fn save(random: &mut Random, image: &[u8]) -> Command {
     };
     let length = sheet_length(random, image, start);
     Command::Save {
-        name: new_name(random, image),
+        name: new_name(random, image, arrangement),
         page,
         start,
         transfer: random.draw() as u16,
@@ -98,7 +104,9 @@ fn sheet_length(random: &mut Random, image: &[u8], start: u16) -> usize {
     }
 }
 
-/// What just fits the free sectors, or is about one sector or byte off.
+/// What just fits the free sectors, or is about one sector or byte off. Images
+/// of a wrong size have their count looked for as well; 0/1 comes first in
+/// every arrangement, and elsewhere this would only be a worse guess.
 fn exact_room(random: &mut Random, image: &[u8]) -> usize {
     let free = if image.len() < 256 {
         0
@@ -123,15 +131,15 @@ fn buffer(random: &mut Random, exact: usize) -> Buffer {
     }
 }
 
-fn read(random: &mut Random, image: &[u8]) -> Command {
-    let name = name(random, image);
-    let reading = crate::read(image, &name, &mut vec![0; 65_536]);
+fn read(random: &mut Random, image: &[u8], arrangement: u32) -> Command {
+    let name = name(random, image, arrangement);
+    let reading = crate::read(image, arrangement, &name, &mut vec![0; 65_536]);
     let buffer = buffer(random, reading.length as usize);
     Command::Read { name, buffer }
 }
 
-fn list(random: &mut Random, image: &[u8]) -> Command {
-    let listed = crate::list(image, &mut vec![0; 65_536]);
+fn list(random: &mut Random, image: &[u8], arrangement: u32) -> Command {
+    let listed = crate::list(image, arrangement, &mut vec![0; 65_536]);
     Command::List {
         buffer: buffer(random, listed.length as usize),
     }

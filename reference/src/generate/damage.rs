@@ -1,34 +1,34 @@
 //! Damaged discs: sound ones with rules broken, bytes flipped or a wrong size.
 
-use super::{sound_disc, Random};
+use super::{arranged, sound_disc, Random, PLAIN};
 use crate::directory::{self, Entry, Slot};
-use crate::disc::{put_link, put_word, sector_mut, word, Address, Disc, Sector};
-use crate::disc::{DIRECTORY_POINTER, FREE_COUNT, FREE_POINTER, USED_COUNT};
+use crate::disc::{put_word, word, Address, Disc, DiscMut, Sector};
+use crate::disc::{FREE_COUNT, FREE_POINTER, USED_COUNT};
 
-pub fn damaged_disc(random: &mut Random, max_tracks: usize) -> Vec<u8> {
-    let mut image = sound_disc(random, max_tracks);
-    damage(random, &mut image);
-    image
+pub fn damaged_disc(random: &mut Random, max_tracks: usize, arrangement: u32) -> Vec<u8> {
+    let mut image = sound_disc(random, max_tracks, PLAIN);
+    damage(random, &mut image, PLAIN);
+    arranged(image, arrangement)
 }
 
 /// Damages a sound image; now and then nothing comes of it.
-pub fn damage(random: &mut Random, image: &mut Vec<u8>) {
+pub fn damage(random: &mut Random, image: &mut Vec<u8>, arrangement: u32) {
     match random.below(10) {
         0 => wrong_length(random, image),
         1..=3 => {
             for _ in 0..random.between(1, 3) {
-                flip_byte(random, image);
+                flip_byte(random, image, arrangement);
             }
         }
         4 | 5 => {
             for _ in 0..random.between(2, 3) {
                 let rule = random.between(1, 8);
-                break_rule(random, image, rule);
+                break_rule(random, image, arrangement, rule);
             }
         }
         _ => {
             let rule = random.between(1, 8);
-            break_rule(random, image, rule);
+            break_rule(random, image, arrangement, rule);
         }
     }
 }
@@ -46,45 +46,56 @@ pub fn wrong_length(random: &mut Random, image: &mut Vec<u8>) {
 }
 
 /// Changes a byte that the check looks at: a pointer or count of the system
-/// sector, a byte of a directory sector, or a link.
-pub fn flip_byte(random: &mut Random, image: &mut [u8]) {
-    let sector = random.below(image.len() / 256);
-    let at = match random.below(3) {
-        0 => random.between(FREE_POINTER, USED_COUNT + 1),
-        1 => sector * 256 + random.below(2),
-        _ => match some_directory_sector(random, image) {
-            Some(sector) => sector.start() + random.below(243),
-            None => sector * 256 + random.below(2),
+/// sector, a byte of a directory sector, or a link. An image of a wrong size or
+/// arrangement is left alone.
+pub fn flip_byte(random: &mut Random, image: &mut [u8], arrangement: u32) {
+    let mut disc = match DiscMut::open(image, arrangement) {
+        Ok(disc) => disc,
+        Err(_) => return,
+    };
+    let any = Sector::numbered(random.below(disc.now().sectors()));
+    let (sector, at) = match random.below(3) {
+        0 => (Sector::SYSTEM, random.between(FREE_POINTER, USED_COUNT + 1)),
+        1 => (any, random.below(2)),
+        _ => match some_directory_sector(random, disc.now()) {
+            Some(sector) => (sector, random.below(243)),
+            None => (any, random.below(2)),
         },
     };
-    image[at] = match random.below(3) {
+    let byte = &mut disc.sector_mut(sector)[at];
+    *byte = match random.below(3) {
         0 => random.byte(),
-        1 => image[at].wrapping_add(1),
+        1 => byte.wrapping_add(1),
         _ => random.below(12) as u8,
     };
 }
 
-/// Damages an image of a right size where the rule looks. The image may stay
-/// sound if it has nothing that the rule could be broken with.
-pub fn break_rule(random: &mut Random, image: &mut [u8], rule: usize) {
+/// Damages an image where the rule looks. The image may stay sound if it has
+/// nothing that the rule could be broken with, and one of a wrong size or
+/// arrangement is left alone.
+pub fn break_rule(random: &mut Random, image: &mut [u8], arrangement: u32, rule: usize) {
+    let mut disc = match DiscMut::open(image, arrangement) {
+        Ok(disc) => disc,
+        Err(_) => return,
+    };
     match rule {
         1 => {
-            let pointer = stray(random, image).to_pointer();
-            image[DIRECTORY_POINTER..DIRECTORY_POINTER + 2].copy_from_slice(&pointer);
+            let pointer = stray(random, disc.now());
+            disc.put_directory_pointer(pointer);
         }
-        2 => redirect_directory(random, image),
-        3 => spoil_directory_sector(random, image),
-        4 => repeat_name(random, image),
-        5 => spoil_file(random, image),
-        6 => spoil_free_chain(random, image),
-        7 => nudge_word(random, image, USED_COUNT),
-        _ => lose_free_sector(random, image),
+        2 => redirect_directory(random, &mut disc),
+        3 => spoil_directory_sector(random, &mut disc),
+        4 => repeat_name(random, &mut disc),
+        5 => spoil_file(random, &mut disc),
+        6 => spoil_free_chain(random, &mut disc),
+        7 => nudge_word(random, disc.system_mut(), USED_COUNT),
+        _ => lose_free_sector(random, &mut disc),
     }
 }
 
 /// 0/1, or an address just off the disc.
-fn stray(random: &mut Random, image: &[u8]) -> Address {
-    let tracks = (image.len() / 2560) as u8;
+fn stray(random: &mut Random, disc: Disc<'_>) -> Address {
+    let tracks = disc.tracks() as u8;
     let (track, sector) = match random.below(6) {
         0 => (0, 1),
         1 => (tracks, random.between(1, 10) as u8),
@@ -97,98 +108,97 @@ fn stray(random: &mut Random, image: &[u8]) -> Address {
 }
 
 /// Any sector of the disc, or a stray address.
-fn elsewhere(random: &mut Random, image: &[u8]) -> Address {
+fn elsewhere(random: &mut Random, disc: Disc<'_>) -> Address {
     if random.one_in(3) {
-        return stray(random, image);
+        return stray(random, disc);
     }
-    Sector::numbered(random.below(image.len() / 256)).address()
+    Sector::numbered(random.below(disc.sectors())).address()
 }
 
 fn some_of<T: Copy>(random: &mut Random, items: &[T]) -> Option<T> {
     (!items.is_empty()).then(|| random.pick(items))
 }
 
-fn some_directory_sector(random: &mut Random, image: &[u8]) -> Option<Sector> {
-    let disc = Disc::open(image).ok()?;
+fn some_directory_sector(random: &mut Random, disc: Disc<'_>) -> Option<Sector> {
     let sectors: Vec<Sector> = directory::sectors(disc).collect();
     some_of(random, &sectors)
 }
 
-fn some_entry(random: &mut Random, image: &[u8]) -> Option<(Slot, Entry)> {
-    let disc = Disc::open(image).ok()?;
+fn some_entry(random: &mut Random, disc: Disc<'_>) -> Option<(Slot, Entry)> {
     let entries: Vec<(Slot, Entry)> = directory::entries(disc).collect();
     some_of(random, &entries)
 }
 
-fn some_of_chain(random: &mut Random, image: &[u8], head: Address) -> Option<Sector> {
-    let disc = Disc::open(image).ok()?;
+fn some_of_chain(random: &mut Random, disc: Disc<'_>, head: Address) -> Option<Sector> {
     let sectors: Vec<Sector> = disc.chain(head).collect();
     some_of(random, &sectors)
 }
 
-fn redirect_directory(random: &mut Random, image: &mut [u8]) {
-    if let Some(from) = some_directory_sector(random, image) {
-        let to = match some_directory_sector(random, image) {
+fn redirect_directory(random: &mut Random, disc: &mut DiscMut<'_>) {
+    if let Some(from) = some_directory_sector(random, disc.now()) {
+        let to = match some_directory_sector(random, disc.now()) {
             Some(sector) if random.one_in(2) => sector.address(),
-            _ => stray(random, image),
+            _ => stray(random, disc.now()),
         };
-        put_link(image, from, to);
+        disc.put_link(from, to);
     }
 }
 
-fn spoil_directory_sector(random: &mut Random, image: &mut [u8]) {
-    let slot = match some_directory_sector(random, image) {
+fn spoil_directory_sector(random: &mut Random, disc: &mut DiscMut<'_>) {
+    let slot = match some_directory_sector(random, disc.now()) {
         Some(sector) => Slot {
             sector,
             index: random.below(15),
         },
         None => return,
     };
-    let in_use = some_entry(random, image).map_or(slot, |(slot, _)| slot);
+    let in_use = some_entry(random, disc.now()).map_or(slot, |(slot, _)| slot);
     match random.below(6) {
         0 => {
-            let count = &mut sector_mut(image, slot.sector)[2];
+            let count = &mut disc.sector_mut(slot.sector)[2];
             *count = random.pick(&[count.wrapping_add(1), count.wrapping_sub(1), 255]);
         }
-        1 => slot.bytes_mut(image)[random.below(16)] = random.byte(),
-        2 => in_use.bytes_mut(image)[random.below(9)] = random.pick(b"a .\x00@"),
-        3 => in_use.bytes_mut(image)[0] = b' ',
-        4 => in_use.bytes_mut(image)[9..11].fill(0),
-        _ => in_use.bytes_mut(image)[15] = random.pick(&[1, 0x7F, 0x81, 0xFF]),
+        1 => slot.bytes_mut(disc)[random.below(16)] = random.byte(),
+        2 => in_use.bytes_mut(disc)[random.below(9)] = random.pick(b"a .\x00@"),
+        3 => in_use.bytes_mut(disc)[0] = b' ',
+        4 => in_use.bytes_mut(disc)[9..11].fill(0),
+        _ => in_use.bytes_mut(disc)[15] = random.pick(&[1, 0x7F, 0x81, 0xFF]),
     }
 }
 
-fn repeat_name(random: &mut Random, image: &mut [u8]) {
-    let pair = (some_entry(random, image), some_entry(random, image));
+fn repeat_name(random: &mut Random, disc: &mut DiscMut<'_>) {
+    let pair = (
+        some_entry(random, disc.now()),
+        some_entry(random, disc.now()),
+    );
     if let (Some((slot, _)), Some((_, other))) = pair {
-        slot.put_name(image, other.name);
+        slot.put_name(disc, other.name);
     }
 }
 
-fn spoil_file(random: &mut Random, image: &mut [u8]) {
-    let (slot, entry) = match some_entry(random, image) {
+fn spoil_file(random: &mut Random, disc: &mut DiscMut<'_>) {
+    let (slot, entry) = match some_entry(random, disc.now()) {
         Some(found) => found,
         None => return,
     };
-    let at = slot.bytes_mut(image);
     match random.below(6) {
-        0 => put_word(at, 9, off_by_one(random, entry.length)),
-        1 => put_word(at, 9, random.draw() as u16 | 1),
+        0 => put_word(slot.bytes_mut(disc), 9, off_by_one(random, entry.length)),
+        1 => put_word(slot.bytes_mut(disc), 9, random.draw() as u16 | 1),
         2 => {
-            let pointer = elsewhere(random, image).to_pointer();
-            slot.bytes_mut(image)[11..13].copy_from_slice(&pointer);
+            let pointer = elsewhere(random, disc.now()).to_pointer();
+            slot.bytes_mut(disc)[11..13].copy_from_slice(&pointer);
         }
         3 => {
-            let pointer = elsewhere(random, image).to_pointer();
-            slot.bytes_mut(image)[13..15].copy_from_slice(&pointer);
+            let pointer = elsewhere(random, disc.now()).to_pointer();
+            slot.bytes_mut(disc)[13..15].copy_from_slice(&pointer);
         }
         4 => {
-            let free = Disc::open(image).map(Disc::free_pointer);
-            if let (Some(last), Ok(free)) = (last_sector(image, &entry), free) {
-                put_link(image, last, free);
+            let free = disc.now().free_pointer();
+            if let Some(last) = disc.now().locate(entry.last) {
+                disc.put_link(last, free);
             }
         }
-        _ => redirect(random, image, entry.first),
+        _ => redirect(random, disc, entry.first),
     }
 }
 
@@ -201,26 +211,25 @@ fn off_by_one(random: &mut Random, length: u16) -> u16 {
     }
 }
 
-fn last_sector(image: &[u8], entry: &Entry) -> Option<Sector> {
-    Disc::open(image).ok()?.locate(entry.last)
-}
-
 /// Sends one link of a chain elsewhere.
-fn redirect(random: &mut Random, image: &mut [u8], head: Address) {
-    if let Some(from) = some_of_chain(random, image, head) {
-        let to = elsewhere(random, image);
-        put_link(image, from, to);
+fn redirect(random: &mut Random, disc: &mut DiscMut<'_>, head: Address) {
+    if let Some(from) = some_of_chain(random, disc.now(), head) {
+        let to = elsewhere(random, disc.now());
+        disc.put_link(from, to);
     }
 }
 
-fn spoil_free_chain(random: &mut Random, image: &mut [u8]) {
+fn spoil_free_chain(random: &mut Random, disc: &mut DiscMut<'_>) {
     match random.below(4) {
-        0 => nudge_word(random, image, FREE_COUNT),
+        0 => nudge_word(random, disc.system_mut(), FREE_COUNT),
         1 => {
-            let pointer = elsewhere(random, image).to_pointer();
-            image[FREE_POINTER..FREE_POINTER + 2].copy_from_slice(&pointer);
+            let pointer = elsewhere(random, disc.now());
+            disc.put_free_pointer(pointer);
         }
-        _ => redirect(random, image, Address::from_pointer(&image[FREE_POINTER..])),
+        _ => {
+            let head = disc.now().free_pointer();
+            redirect(random, disc, head);
+        }
     }
 }
 
@@ -230,21 +239,18 @@ fn nudge_word(random: &mut Random, bytes: &mut [u8], at: usize) {
 }
 
 /// Takes the first or the last sector out of the free chain and its count.
-fn lose_free_sector(random: &mut Random, image: &mut [u8]) {
-    let disc = match Disc::open(image) {
-        Ok(disc) => disc,
-        Err(_) => return,
-    };
-    let sectors: Vec<Sector> = disc.chain(disc.free_pointer()).collect();
+fn lose_free_sector(random: &mut Random, disc: &mut DiscMut<'_>) {
+    let before = disc.now();
+    let sectors: Vec<Sector> = before.chain(before.free_pointer()).collect();
     if sectors.is_empty() {
         return;
     }
-    let count = word(image, FREE_COUNT).wrapping_sub(1);
+    let second = before.link(sectors[0]);
+    let count = word(before.system(), FREE_COUNT).wrapping_sub(1);
     if sectors.len() > 1 && random.one_in(2) {
-        put_link(image, sectors[sectors.len() - 2], Address::END);
+        disc.put_link(sectors[sectors.len() - 2], Address::END);
     } else {
-        let second = disc.link(sectors[0]).to_pointer();
-        image[FREE_POINTER..FREE_POINTER + 2].copy_from_slice(&second);
+        disc.put_free_pointer(second);
     }
-    put_word(image, FREE_COUNT, count);
+    put_word(disc.system_mut(), FREE_COUNT, count);
 }

@@ -3,22 +3,22 @@
 //! Written on its own from the layouts, without the code of the commands.
 
 use super::files::{bodies, Body};
-use super::{fresh_name, Random};
+use super::{arranged, fresh_name, Random};
 use std::collections::BTreeSet;
 
 /// A sound image of at most `max_tracks` tracks, mostly small.
-pub fn sound_disc(random: &mut Random, max_tracks: usize) -> Vec<u8> {
+pub fn sound_disc(random: &mut Random, max_tracks: usize, arrangement: u32) -> Vec<u8> {
     let tracks = track_count(random, max_tracks.clamp(1, 80));
-    sound_disc_of(random, tracks)
+    sound_disc_of(random, tracks, arrangement)
 }
 
 /// A sound image of 1 to 80 tracks.
-pub fn sound_disc_of(random: &mut Random, tracks: usize) -> Vec<u8> {
+pub fn sound_disc_of(random: &mut Random, tracks: usize, arrangement: u32) -> Vec<u8> {
     let mut maker = Maker::new(random, tracks);
     let slots = maker.place_directory();
     maker.place_files(&slots);
     maker.place_free_chain();
-    maker.image
+    arranged(maker.image, arrangement)
 }
 
 fn track_count(random: &mut Random, max_tracks: usize) -> usize {
@@ -31,6 +31,7 @@ fn track_count(random: &mut Random, max_tracks: usize) -> usize {
 
 struct Maker<'a> {
     random: &'a mut Random,
+    /// Plain.
     image: Vec<u8>,
     /// Numbers of the sectors not placed yet.
     pool: Vec<usize>,

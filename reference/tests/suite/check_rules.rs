@@ -1,6 +1,6 @@
 //! Each rule of the check broken alone, and the lowest of several reported.
 
-use crate::common::{link, position, put, rule, small, DIRECTORY, ONE_SLOT, TWO_SLOT};
+use crate::common::{link, position, put, rule, small, DIRECTORY, ONE_SLOT, PLAIN, TWO_SLOT};
 use reference::{check, Checked};
 
 /// The rule reported after bytes of `small` are overwritten.
@@ -283,10 +283,10 @@ fn an_empty_free_chain_may_have_any_track_byte() {
 fn the_check_refuses_wrong_sizes_only() {
     let refused = Checked { number: 1, rule: 0 };
     for length in [0, 1, 256, 2_559, 2_561, 2_816, 204_799, 204_801, 207_360] {
-        assert_eq!(check(&vec![0; length]), refused, "{length}");
+        assert_eq!(check(&vec![0; length], PLAIN), refused, "{length}");
     }
     for tracks in 1..=80 {
         let broken = Checked { number: 0, rule: 1 };
-        assert_eq!(check(&vec![0; 2_560 * tracks]), broken, "{tracks}");
+        assert_eq!(check(&vec![0; 2_560 * tracks], PLAIN), broken, "{tracks}");
     }
 }

@@ -1,8 +1,35 @@
-//! Images written by hand from the layouts, byte by byte.
+//! Images written by hand from the layouts, byte by byte. They are plain.
+
+/// The numbers of the two arrangements.
+pub const PLAIN: u32 = 0;
+pub const MOVED: u32 = 1;
 
 /// Where track t, sector s starts in the image.
 pub fn position(track: usize, sector: usize) -> usize {
     256 * (10 * track + sector - 1)
+}
+
+/// The place that each of the sectors 1 to 10 has in its track of a moved
+/// image, counted off by hand in 1, 4, 7, 10, 3, 6, 9, 2, 5, 8.
+const MOVED_PLACES: [usize; 10] = [0, 7, 4, 1, 8, 5, 2, 9, 6, 3];
+
+/// Where track t, sector s starts in a moved image.
+pub fn moved_position(track: usize, sector: usize) -> usize {
+    256 * (10 * track + MOVED_PLACES[sector - 1])
+}
+
+/// Where the byte at a position of a plain image lies in the moved one.
+pub fn moved_byte(at: usize) -> usize {
+    moved_position(at / 2560, at / 256 % 10 + 1) + at % 256
+}
+
+/// The moved form of a plain image, worked out without the program.
+pub fn moved(plain: &[u8]) -> Vec<u8> {
+    let mut image = plain.to_vec();
+    for (at, &byte) in plain.iter().enumerate() {
+        image[moved_byte(at)] = byte;
+    }
+    image
 }
 
 pub fn put(image: &mut [u8], at: usize, bytes: &[u8]) {
@@ -60,7 +87,7 @@ pub fn small() -> Vec<u8> {
 
 /// The rule that the check reports for an image of a right size.
 pub fn rule(image: &[u8]) -> u32 {
-    let checked = reference::check(image);
+    let checked = reference::check(image, PLAIN);
     assert_eq!(checked.number, 0);
     checked.rule
 }

@@ -1,6 +1,7 @@
 //! The tests of the reference program. What they expect is worked out by hand
 //! from the paper, not by the code under test.
 
+mod arrangements;
 mod check_rules;
 mod commands;
 mod common;

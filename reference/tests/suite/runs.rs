@@ -1,19 +1,20 @@
 //! Long generated command lists, with every claim of the history checked at
 //! every moment.
 
+use crate::common::{MOVED, PLAIN};
 use reference::command::Command;
 use reference::generate::{command_list, fresh_name, sound_disc, Random};
 use reference::history::{moment_fault, Book, Reference};
 
-fn sound(image: &[u8]) -> bool {
-    let checked = reference::check(image);
+fn sound(image: &[u8], arrangement: u32) -> bool {
+    let checked = reference::check(image, arrangement);
     (checked.number, checked.rule) == (0, 0)
 }
 
 /// Runs one list, checks every moment, and gives how many were accepted.
-fn checked_run(start: &[u8], commands: &[Command], label: u64) -> usize {
+fn checked_run(start: &[u8], arrangement: u32, commands: &[Command], label: u64) -> usize {
     let mut image = start.to_vec();
-    let mut book = Book::start(start).expect("the starting image is sound");
+    let mut book = Book::start(start, arrangement).expect("the starting image is sound");
     assert_eq!(
         moment_fault(&Reference, &image, &book),
         None,
@@ -22,13 +23,16 @@ fn checked_run(start: &[u8], commands: &[Command], label: u64) -> usize {
     let mut accepted = 0;
     for (at, command) in commands.iter().enumerate() {
         let before = image.clone();
-        let answer = command.run(&mut image);
+        let answer = command.run(&mut image, arrangement);
         book.record(command, answer.accepted());
         accepted += usize::from(answer.accepted());
         if !answer.accepted() {
             assert_eq!(image, before, "seed {label}, command {at}");
         }
-        assert!(sound(&image), "seed {label}, command {at} {command:?}");
+        assert!(
+            sound(&image, arrangement),
+            "seed {label}, command {at} {command:?}"
+        );
         let fault = moment_fault(&Reference, &image, &book);
         assert_eq!(fault, None, "seed {label}, command {at} {command:?}");
     }
@@ -37,34 +41,36 @@ fn checked_run(start: &[u8], commands: &[Command], label: u64) -> usize {
 
 #[test]
 fn many_short_runs() {
-    let mut accepted = 0;
-    for seed in 0..600 {
-        let mut random = Random::new(seed);
-        let start = sound_disc(&mut random, 5);
-        let commands = command_list(&mut random, &start, 30);
-        accepted += checked_run(&start, &commands, seed);
+    for arrangement in [PLAIN, MOVED] {
+        let mut accepted = 0;
+        for seed in 0..600 {
+            let mut random = Random::new(seed);
+            let start = sound_disc(&mut random, 5, arrangement);
+            let commands = command_list(&mut random, &start, arrangement, 30);
+            accepted += checked_run(&start, arrangement, &commands, seed);
+        }
+        assert!(accepted > 5000, "only {accepted} commands were accepted");
     }
-    assert!(accepted > 5000, "only {accepted} commands were accepted");
 }
 
 #[test]
 fn few_long_runs() {
-    for seed in 1000..1016 {
+    for (seed, arrangement) in (1000..1016).zip([PLAIN, MOVED].into_iter().cycle()) {
         let mut random = Random::new(seed);
-        let start = sound_disc(&mut random, 3);
-        let commands = command_list(&mut random, &start, 600);
-        checked_run(&start, &commands, seed);
+        let start = sound_disc(&mut random, 3, arrangement);
+        let commands = command_list(&mut random, &start, arrangement, 600);
+        checked_run(&start, arrangement, &commands, seed);
     }
 }
 
 #[test]
 fn runs_on_full_size_discs() {
-    for seed in 2000..2003 {
+    for (seed, arrangement) in (2000..2004).zip([PLAIN, MOVED].into_iter().cycle()) {
         let mut random = Random::new(seed);
         let mut start = vec![0xEE; 80 * 2560];
-        assert_eq!(reference::blank(&mut start, b"BIG"), 0);
-        let commands = command_list(&mut random, &start, 60);
-        checked_run(&start, &commands, seed);
+        assert_eq!(reference::blank(&mut start, arrangement, b"BIG"), 0);
+        let commands = command_list(&mut random, &start, arrangement, 60);
+        checked_run(&start, arrangement, &commands, seed);
     }
 }
 
@@ -92,15 +98,15 @@ fn hovering_list(random: &mut Random, count: usize) -> Vec<Command> {
 #[test]
 fn runs_around_a_full_directory_sector() {
     let mut most_directory = 0;
-    for seed in 3000..3012 {
+    for (seed, arrangement) in (3000..3012).zip([PLAIN, MOVED].into_iter().cycle()) {
         let mut random = Random::new(seed);
         let mut start = vec![0; 2560 * random.between(2, 8)];
-        assert_eq!(reference::blank(&mut start, b"HOVER"), 0);
+        assert_eq!(reference::blank(&mut start, arrangement, b"HOVER"), 0);
         let commands = hovering_list(&mut random, 250);
-        checked_run(&start, &commands, seed);
-        let mut book = Book::start(&start).expect("sound");
+        checked_run(&start, arrangement, &commands, seed);
+        let mut book = Book::start(&start, arrangement).expect("sound");
         for command in &commands {
-            let accepted = command.run(&mut start).accepted();
+            let accepted = command.run(&mut start, arrangement).accepted();
             book.record(command, accepted);
         }
         most_directory = most_directory.max(book.directory());

@@ -1,5 +1,6 @@
 //! The trace program: its text is read back and every run replayed from it.
 
+use crate::common::{moved_position, position, MOVED, PLAIN};
 use reference::command::{Answer, Buffer, Command};
 use std::process::Command as Process;
 
@@ -90,13 +91,18 @@ fn same(answer: &Answer, fields: &[&str]) -> bool {
             ];
             numbers(6) == stands && bytes(fields[6]) == *lent
         }
-        Answer::Viewed(done, seen) => numbers(1) == [*done] && bytes(fields[1]) == *seen,
+        Answer::Viewed {
+            number,
+            start,
+            bytes: seen,
+        } => numbers(2) == [*number, *start] && bytes(fields[2]) == *seen,
     }
 }
 
 /// One image as the commands make it, and one as the trace says it changed.
 #[derive(Default)]
 struct Replay {
+    arrangement: u32,
     made: Vec<u8>,
     told: Vec<u8>,
     images: usize,
@@ -107,27 +113,38 @@ impl Replay {
     fn line(&mut self, line: &str) {
         let fields: Vec<&str> = line.split(' ').collect();
         match *fields {
-            ["image", image] => {
+            ["image", arrangement, image] => {
+                self.arrangement = number(arrangement);
                 self.made = bytes(image);
                 self.told = self.made.clone();
                 self.images += 1;
             }
             ["sector", at, sector] => {
-                let start = 256 * number::<usize>(at);
+                let start = self.start(number(at));
                 let told = bytes(sector);
                 self.told[start..start + told.len()].copy_from_slice(&told);
             }
             ["check", done, rule] => {
-                let checked = reference::check(&self.made);
+                let checked = reference::check(&self.made, self.arrangement);
                 assert_eq!([checked.number, checked.rule], [number(done), number(rule)]);
             }
             ["moment", "none"] => {
-                let checked = reference::check(&self.made);
+                let checked = reference::check(&self.made, self.arrangement);
                 assert_ne!((checked.number, checked.rule), (0, 0));
             }
             ["moment", free, directory, files] => self.moment([free, directory, files]),
             ["end", count] => assert_eq!(number::<usize>(count), self.images),
             _ => self.command(&fields),
+        }
+    }
+
+    /// Where the sector of a number begins in the image.
+    fn start(&self, number: usize) -> usize {
+        let (track, sector) = (number / 10, number % 10 + 1);
+        match self.arrangement {
+            PLAIN => position(track, sector),
+            MOVED => moved_position(track, sector),
+            other => panic!("a sector changed in arrangement {other}"),
         }
     }
 
@@ -141,7 +158,7 @@ impl Replay {
 
     fn command(&mut self, fields: &[&str]) {
         let equals = fields.iter().position(|&field| field == "=").expect("=");
-        let answer = parse(&fields[..equals]).run(&mut self.made);
+        let answer = parse(&fields[..equals]).run(&mut self.made, self.arrangement);
         assert!(same(&answer, &fields[equals + 1..]), "{fields:?}");
         self.commands += 1;
     }
@@ -157,22 +174,71 @@ fn replay(arguments: &[&str]) -> Replay {
 
 #[test]
 fn runs_on_sound_discs() {
-    let replayed = replay(&["5", "120", "6"]);
-    assert_eq!(replayed.images, 120);
-    assert!(replayed.commands > 400, "{}", replayed.commands);
+    for front in [&[][..], &["--arrangement", "0"], &["--arrangement", "1"]] {
+        let replayed = replay(&[front, &["5", "120", "6"]].concat());
+        assert_eq!(replayed.images, 120);
+        assert!(replayed.commands > 400, "{}", replayed.commands);
+    }
 }
 
 #[test]
 fn damaged_images() {
-    let replayed = replay(&["damaged", "5", "200", "6"]);
-    assert_eq!((replayed.images, replayed.commands), (200, 0));
+    for number in ["0", "1"] {
+        let replayed = replay(&["--arrangement", number, "damaged", "5", "200", "6"]);
+        assert_eq!((replayed.images, replayed.commands), (200, 0));
+    }
 }
 
 #[test]
 fn runs_on_damaged_images() {
-    let replayed = replay(&["refused", "5", "120", "4"]);
-    assert_eq!(replayed.images, 120);
-    assert!(replayed.commands > 400, "{}", replayed.commands);
+    for number in ["0", "1"] {
+        let replayed = replay(&["--arrangement", number, "refused", "5", "120", "4"]);
+        assert_eq!(replayed.images, 120);
+        assert!(replayed.commands > 400, "{}", replayed.commands);
+    }
+}
+
+#[test]
+fn an_arrangement_that_is_none_refuses_every_call() {
+    for number in ["2", "256", "4294967295"] {
+        let arguments = ["--arrangement", number, "refused", "5", "60", "3"];
+        let replayed = replay(&arguments);
+        assert!(replayed.commands > 200, "{}", replayed.commands);
+        for line in trace(&arguments) {
+            let fields: Vec<&str> = line.split(' ').collect();
+            let answered = fields.iter().position(|&field| field == "=");
+            match answered {
+                Some(equals) => assert_eq!(fields[equals + 1], "1", "{line}"),
+                None => assert_ne!(fields[0], "sector"),
+            }
+        }
+    }
+}
+
+/// The lines of a trace without what the arrangement decides: the images, and
+/// where a view starts.
+fn without_places(arguments: &[&str]) -> Vec<String> {
+    let mut lines = trace(arguments);
+    lines.retain(|line| !line.starts_with("image "));
+    for line in &mut lines {
+        if line.starts_with("view ") {
+            let mut fields: Vec<&str> = line.split(' ').collect();
+            fields.remove(5);
+            *line = fields.join(" ");
+        }
+    }
+    lines
+}
+
+#[test]
+fn a_seed_gives_the_same_runs_in_either_arrangement() {
+    for mode in [&[][..], &["damaged"], &["refused"]] {
+        let lines = |number| {
+            let front = ["--arrangement", number];
+            without_places(&[&front[..], mode, &["11", "60", "5"]].concat())
+        };
+        assert!(lines("0") == lines("1"), "{mode:?}");
+    }
 }
 
 #[test]
@@ -182,6 +248,10 @@ fn wrong_arguments_are_refused() {
         &["x", "2", "3"],
         &["1", "2", "0"],
         &["1", "2", "81"],
+        &["--arrangement", "1", "2", "3"],
+        &["--arrangement", "x", "1", "2", "3"],
+        &["--arrangement", "4294967296", "1", "2", "3"],
+        &["damaged", "--arrangement", "1", "1", "2", "3"],
     ] {
         let status = Process::new(env!("CARGO_BIN_EXE_trace"))
             .args(arguments)

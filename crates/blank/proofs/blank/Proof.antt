@@ -2,19 +2,17 @@
 -- Assumes nothing.
 use borrow.Author.Needs.{needs}
 use borrow.Author.Tests.{not-true, not-false}
-use native.Mathlib.Omega.{arith}
 use Prim.Native.Nat.{ℕ}
 use mathlib.Core.Path.{_≡_, sym, ap, _∙_}
 use mathlib.Core.Option.{Option}
 use mathlib.Core.List.{List}
 use lib.ListN.{length}
-use Rattle.format.specs.Geometry.{ten, flat}
-use Rattle.format.specs.GeometryLaws.{geometry-ok, flat-cut}
+use Rattle.format.specs.Geometry.{flat}
 use Rattle.format.specs.Names.{discName}
 use Rattle.format.specs.Effects.{blankDisc}
 use Rattle.format.specs.Calls.{answered}
-use Rattle.disc.specs.Meaning.{geo}
-use Rattle.disc.specs.Laws.{image-of, geometry-is, geometry-wrong}
+use Rattle.disc.specs.Meaning.{form, geo}
+use Rattle.disc.specs.Laws.{opened, image-whole, geometry-wrong}
 use Rattle.names.specs.declared.Parsed.{Parsed}
 use Rattle.names.specs.Answer.{parsed-none, parsed-some}
 use Rattle.blank.specs.Laws.{blank-size, blank-name, blank-done}
@@ -37,21 +35,21 @@ returns : tie.Need-returns
 returns c =
     let a = c .before .before .before .before .before .before .before .before .before .args in
     let e = sym (c .before .before .before .before .before .before .geometry-of .ensures) ∙ c .before .before .before .before .g .given .1 in
-    let is = geometry-is _ _ e in
+    let o = opened _ (a .image .now) _ e in
     let none = parsed-none _ (sym (ap (λ (r : Parsed). r .ok) (c .before .before .disc-name .ensures)) ∙ not-true _ (c .if1 .taken)) in
-    sym (blank-name (a .image .now) (a .name .now) _ is none)
+    rw (o .kind-is) (sym (blank-name _ (a .image .now) (a .name .now) _ (o .geometry-is) none))
 
 blank-on-requires : tie.Need-blank-on-requires
 blank-on-requires c κs =
     let a = c .before .before .before .before .before .before .before .before .before .before .before .args in
     let e = sym (c .before .before .before .before .before .before .before .before .geometry-of .ensures) ∙ c .before .before .before .before .before .before .g .given .1 in
-    let is = geometry-is _ _ e in
-    (image-of _ (a .image .now) e, geometry-ok ten _ _ is .per-track)
+    let o = opened _ (a .image .now) _ e in
+    (o .on-image, o .ten-on-track)
 
 returns-2 : tie.Need-returns-2
 returns-2 c =
     let a = c .before .before .before .before .before .args in
-    sym (blank-size (a .image .now) (a .name .now) (geometry-wrong _ (sym (c .before .before .geometry-of .ensures) ∙ c .enum-told .given .1)))
+    sym (blank-size _ (a .image .now) (a .name .now) (geometry-wrong _ _ (sym (c .before .before .geometry-of .ensures) ∙ c .enum-told .given .1)))
 
 same-length : tie.Need-same-length
 same-length c = search needs
@@ -60,16 +58,15 @@ returns-3 : tie.Need-returns-3
 returns-3 c =
     let a = c .before .before .before .before .before .before .before .before .before .before .before .before .before .before .args in
     let e = sym (c .before .before .before .before .before .before .before .before .before .before .before .geometry-of .ensures) ∙ c .before .before .before .before .before .before .before .before .before .g .given .1 in
-    let is = geometry-is _ _ e in
     let g = c .before .before .before .before .before .before .before .before .before .g .given .0 .0 in
     let o : Option (List ℕ) = discName (a .name .now) in
     let some = parsed-some o (sym (ap (λ (r : Parsed). r .ok) (c .before .before .before .before .before .before .before .disc-name .ensures)) ∙ not-false _ (c .before .before .before .before .before .if1 .left)) in
     let nine = ap (λ (r : Parsed). r .name .bytes) (c .before .before .before .before .before .before .before .disc-name .ensures) in
-    let im = image-of g (a .image .now) e in
+    let opening = opened g (a .image .now) _ e in
     let after : List ℕ = c .before .before .blank-on .last .0 in
     let long : length after ≡ length (a .image .now) = search needs in
-    let flattened = sym (flat-cut (geo g) after (omega (arith, im .long, im .valid .total))) ∙ ap (flat (geo g)) (c .before .before .blank-on .ensures) in
-    ap (answered 0) (flattened ∙ ap (λ (n : List ℕ). flat (geo g) (blankDisc (geo g) n)) nine) ∙ sym (blank-done (a .image .now) (a .name .now) (geo g) is _ some)
+    let flattened = sym (image-whole (opening .on-image) after long) ∙ ap (flat (form g) (geo g)) (c .before .before .blank-on .ensures) in
+    rw (opening .kind-is) (ap (answered 0) (flattened ∙ ap (λ (n : List ℕ). flat (form g) (geo g) (blankDisc (geo g) n)) nine) ∙ sym (blank-done (form g) (a .image .now) (a .name .now) (geo g) (opening .geometry-is) _ some))
 
 pub blank-spec : {M : Type 1} → statement M
 blank-spec =

@@ -12,7 +12,7 @@ use Rattle.format.specs.Geometry.{Disc, sector, sectors}
 use Rattle.format.specs.GeometryLaws.{length-cut, sector-again}
 use Rattle.format.specs.Layout.{freePlace, freeCountPlace, discNamePlace, versionPlace}
 use Rattle.format.specs.Effects.{version}
-use Rattle.disc.specs.Meaning.{geo, sectorsOf, storedAt}
+use Rattle.disc.specs.Meaning.{geo, sectorsOf, storedAt, form}
 use Rattle.blank.specs.Links.{many}
 use Rattle.blank.specs.Laws.{system-is}
 use Rattle.blank.proofs.put_system.Statement.{statement}
@@ -62,7 +62,7 @@ returns c =
     let a = start .args in
     let G = geo (a .g) in
     let d : Disc = sectorsOf (a .g) (a .image .now) in
-    let on : 0 < length d = omega (arith, length-cut G (a .image .now), start .pre .0 .valid .total, start .pre .0 .valid .some-sectors) in
+    let on : 0 < length d = omega (arith, length-cut (form (a .g)) G (a .image .now), start .pre .0 .valid .total, start .pre .0 .valid .some-sectors) in
     let pairs : List ℕ = c .before .before .before .before .before .before .before .before .before .before .before .before .before .before .before .before .before .before .before .before .before .pointers .result in
     let counts : List ℕ = word (a .g .sectors - 2) ++ word 0 in
     let nine : List ℕ = a .name .bytes in

@@ -4,7 +4,7 @@ use borrow.Author.Needs.{needs}
 use mathlib.Core.Path.{sym, _∙_}
 use Rattle.format.specs.Geometry.{Geometry, Disc}
 use Rattle.format.specs.Calls.{protectOn, afterProtect}
-use Rattle.disc.specs.Laws.{image-of, geometry-is, geometry-wrong}
+use Rattle.disc.specs.Laws.{opened, geometry-wrong}
 use Rattle.lookup.specs.Laws.{changed-size, changed-leaves}
 use Rattle.commands.proofs.protect.Statement.{statement}
 use Rattle.commands.proofs.protect.Tie as tie
@@ -19,13 +19,13 @@ enum-known-g : tie.Need-enum-known-g
 enum-known-g c = search needs
 
 protect-on-requires : tie.Need-protect-on-requires
-protect-on-requires c κs = image-of _ (c .before .before .before .before .before .before .before .args .image .now) (sym (c .before .before .before .before .geometry-of .ensures) ∙ c .before .before .g .given .1)
+protect-on-requires c κs = opened _ (c .before .before .before .before .before .before .before .args .image .now) _ (sym (c .before .before .before .before .geometry-of .ensures) ∙ c .before .before .g .given .1) .on-image
 
 returns : tie.Need-returns
 unfolding afterProtect
 returns c =
     let a = c .before .before .before .before .before .args in
-    sym (changed-size (a .image .now) (λ (G : Geometry) (d : Disc). protectOn G d (a .name .now) (a .on)) (geometry-wrong _ (sym (c .before .before .geometry-of .ensures) ∙ c .enum-told .given .1)))
+    sym (changed-size _ (a .image .now) (λ (G : Geometry) (d : Disc). protectOn G d (a .name .now) (a .on)) (geometry-wrong _ _ (sym (c .before .before .geometry-of .ensures) ∙ c .enum-told .given .1)))
 
 same-length : tie.Need-same-length
 same-length c = search needs
@@ -35,7 +35,7 @@ unfolding afterProtect
 returns-2 c =
     let a = c .before .before .before .before .before .before .before .before .before .before .args in
     let e = sym (c .before .before .before .before .before .before .before .geometry-of .ensures) ∙ c .before .before .before .before .before .g .given .1 in
-    changed-leaves (a .image .now) (λ (G : Geometry) (d : Disc). protectOn G d (a .name .now) (a .on)) (c .before .before .before .before .before .g .given .0 .0) _ _ (geometry-is _ _ e) (image-of _ (a .image .now) e) (search needs) (c .before .before .protect-on .ensures)
+    changed-leaves (opened _ (a .image .now) _ e) (λ (G : Geometry) (d : Disc). protectOn G d (a .name .now) (a .on)) _ _ (search needs) (c .before .before .protect-on .ensures)
 
 pub protect-spec : {M : Type 1} → statement M
 protect-spec =

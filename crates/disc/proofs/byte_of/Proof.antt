@@ -6,6 +6,7 @@ use native.Mathlib.Omega.{arith}
 use lib.ListN.{getD}
 use borrow.Author.Needs.{needs}
 use Rattle.format.specs.GeometryLaws.{byte-cut}
+use Rattle.disc.specs.Laws.{each-once}
 use Rattle.disc.proofs.byte_of.Statement.{statement}
 use Rattle.disc.proofs.byte_of.Tie as tie
 
@@ -21,7 +22,7 @@ shared-slice-read-result c = search needs
 returns : tie.Need-returns
 returns c =
     let a = c .before .before .before .args in
-    ap (λ (j : ℕ). getD (a .image .now) (j + a .k) 0) (c .before .start-of .ensures) ∙ sym (byte-cut _ _ _ _ (omega arith) (omega arith))
+    ap (λ (j : ℕ). getD (a .image .now) (j + a .k) 0) (c .before .start-of .ensures .at) ∙ sym (byte-cut _ _ (each-once (c .before .before .before .pre .0 .valid)) _ _ _ (omega arith) (omega arith))
 
 pub byte-of-spec : {M : Type 1} → statement M
 byte-of-spec = tie.close (tie.spec start-of-requires add-result shared-slice-read-result returns)

@@ -3,20 +3,38 @@
 use mathlib.Core.Path.{ap₂, _∙_}
 use borrow.Author.Needs.{needs}
 use Rattle.format.specs.Geometry.{pointed}
+use Rattle.disc.specs.Laws.{link-at}
 use Rattle.disc.proofs.link_of.Statement.{statement}
 use Rattle.disc.proofs.link_of.Tie as tie
 
-byte-of-requires : tie.Need-byte-of-requires
-byte-of-requires c κs = search needs
+start-of-requires : tie.Need-start-of-requires
+start-of-requires c κs = search needs
 
-byte-of-requires-2 : tie.Need-byte-of-requires-2
-byte-of-requires-2 c κs = search needs
+shared-slice-read-pointed-at : tie.Need-shared-slice-read-pointed-at
+shared-slice-read-pointed-at c = search needs
+
+add-pointed-at : tie.Need-add-pointed-at
+add-pointed-at c = search needs
+
+shared-slice-read-pointed-at-2 : tie.Need-shared-slice-read-pointed-at-2
+shared-slice-read-pointed-at-2 c = search needs
 
 pointed-at-requires : tie.Need-pointed-at-requires
 pointed-at-requires c κs = search needs
 
 returns : tie.Need-returns
-returns c = c .pointed-at .ensures ∙ ap₂ (pointed _) (c .before .before .byte-of .ensures) (c .before .byte-of2 .ensures)
+returns c =
+    let start = c .before .before .before .before .before in
+    let bytes = link-at (start .pre .0) (c .before .before .before .start-of .ensures) (start .pre .1) in
+    c .pointed-at .ensures ∙ ap₂ (pointed _) (bytes .0) (bytes .1)
 
 pub link-of-spec : {M : Type 1} → statement M
-link-of-spec = tie.close (tie.spec byte-of-requires byte-of-requires-2 pointed-at-requires returns)
+link-of-spec =
+    tie.close
+    (tie.spec
+    start-of-requires
+    shared-slice-read-pointed-at
+    add-pointed-at
+    shared-slice-read-pointed-at-2
+    pointed-at-requires
+    returns)

@@ -2,7 +2,8 @@
 -- Assumes nothing.
 use native.Mathlib.Omega.{arith}
 use borrow.Author.Needs.{needs}
-use Rattle.disc.specs.Laws.{on-disc-is, number-on}
+use Rattle.format.specs.GeometryLaws.{on-disc-is}
+use Rattle.disc.specs.Laws.{number-on}
 use Rattle.disc.specs.Meaning.{geo}
 use Rattle.disc.proofs.number_of.Statement.{statement}
 use Rattle.disc.proofs.number_of.Tie as tie

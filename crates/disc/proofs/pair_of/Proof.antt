@@ -3,25 +3,42 @@
 use mathlib.Core.Path.{ap₂, _∙_}
 use borrow.Author.Needs.{needs}
 use Rattle.format.specs.Geometry.{pointed}
+use Rattle.disc.specs.Laws.{bytes-at}
 use Rattle.disc.proofs.pair_of.Statement.{statement}
 use Rattle.disc.proofs.pair_of.Tie as tie
 
-byte-of-requires : tie.Need-byte-of-requires
-byte-of-requires c κs = search needs
+start-of-requires : tie.Need-start-of-requires
+start-of-requires c κs = search needs
 
-add-byte-of : tie.Need-add-byte-of
-add-byte-of c = search needs
+add-at : tie.Need-add-at
+add-at c = search needs
 
-byte-of-requires-2 : tie.Need-byte-of-requires-2
-byte-of-requires-2 c κs = search needs
+add-pointed-at : tie.Need-add-pointed-at
+add-pointed-at c = search needs
+
+shared-slice-read-pointed-at : tie.Need-shared-slice-read-pointed-at
+shared-slice-read-pointed-at c = search needs
+
+shared-slice-read-pointed-at-2 : tie.Need-shared-slice-read-pointed-at-2
+shared-slice-read-pointed-at-2 c = search needs
 
 pointed-at-requires : tie.Need-pointed-at-requires
 pointed-at-requires c κs = search needs
 
 returns : tie.Need-returns
-returns c = c .pointed-at .ensures ∙ ap₂ (pointed _) (c .before .byte-of2 .ensures) (c .before .before .byte-of .ensures)
+returns c =
+    let start = c .before .before .before .before .before in
+    let bytes = bytes-at (start .pre .0) (c .before .before .before .start-of .ensures) (start .pre .1) (start .args .k) (start .pre .2) in
+    c .pointed-at .ensures ∙ ap₂ (pointed _) (bytes .1) (bytes .0)
 
 pub pair-of-spec : {M : Type 1} → statement M
 pair-of-spec =
     tie.close
-    (tie.spec byte-of-requires add-byte-of byte-of-requires-2 pointed-at-requires returns)
+    (tie.spec
+    start-of-requires
+    add-at
+    add-pointed-at
+    shared-slice-read-pointed-at
+    shared-slice-read-pointed-at-2
+    pointed-at-requires
+    returns)

@@ -6,8 +6,8 @@ use lib.ListN.{length}
 use borrow.Author.Needs.{needs}
 use Rattle.format.specs.Geometry.{sector}
 use Rattle.format.specs.GeometryLaws.{cut-full, sector-full}
-use Rattle.disc.specs.Meaning.{geo, sectorsOf}
-use Rattle.disc.specs.Laws.{sets-whole}
+use Rattle.disc.specs.Meaning.{form, geo, sectorsOf}
+use Rattle.disc.specs.Laws.{each-once, sets-whole}
 use Rattle.disc.proofs.put_sector.Statement.{statement}
 use Rattle.disc.proofs.put_sector.Tie as tie
 
@@ -21,7 +21,7 @@ returns : tie.Need-returns
 returns c =
     let a = c .before .before .before .before .before .before .args in
     let d = sectorsOf (a .g) (a .image .now) in
-    let full = cut-full (geo (a .g)) (a .image .now) (omega arith) in
+    let full = cut-full (form (a .g)) (geo (a .g)) (each-once (c .before .before .before .before .before .before .pre .0 .valid)) (a .image .now) (omega arith) in
     let long : length (sector d (a .n .0)) ≡ 256 = sector-full full (a .n .0) (omega arith) in
     rw (sets-whole (sector d (a .n .0)) (a .from .now) (omega arith)) at (c .before .before .put .ensures)
 

@@ -23,7 +23,7 @@ is-legal-requires c κs = search needs
 returns : tie.Need-returns
 returns c =
     sym (entry-is (c .before .before .before .before .before .pre .0) _ _ (c .before .before .before .before .before .pre .1) (c .before .before .before .before .before .pre .2)
-    ∙ simp (← c .before .before .before .slot-start .ensures, ← c .before .before .start-of .ensures, ← c .before .is-legal .ensures, not-true (c .before .is-legal .result) (c .if1 .taken)))
+    ∙ simp (← c .before .before .before .slot-start .ensures, ← c .before .before .start-of .ensures .at, ← c .before .is-legal .ensures, not-true (c .before .is-legal .result) (c .if1 .taken)))
 
 add-word-of : tie.Need-add-word-of
 add-word-of c = search needs
@@ -34,7 +34,7 @@ word-of-requires c κs = search needs
 returns-2 : tie.Need-returns-2
 returns-2 c =
     sym (entry-is (c .before .before .before .before .before .before .before .pre .0) _ _ (c .before .before .before .before .before .before .before .pre .1) (c .before .before .before .before .before .before .before .pre .2)
-    ∙ simp (← c .before .before .before .before .before .slot-start .ensures, ← c .before .before .before .before .start-of .ensures, ← c .before .before .before .is-legal .ensures, not-false (c .before .before .before .is-legal .result) (c .before .before .if1 .left), ← c .before .word-of .ensures, c .if2 .taken))
+    ∙ simp (← c .before .before .before .before .before .slot-start .ensures, ← c .before .before .before .before .start-of .ensures .at, ← c .before .before .before .is-legal .ensures, not-false (c .before .before .before .is-legal .result) (c .before .before .if1 .left), ← c .before .word-of .ensures, c .if2 .taken))
 
 add-byte-of : tie.Need-add-byte-of
 add-byte-of c = search needs
@@ -49,7 +49,7 @@ returns-3 : tie.Need-returns-3
 returns-3 c =
     let some = le-leb 1 (c .before .before .before .word-of .result) (omega (arith, c .before .before .if2 .left)) in
     sym (entry-is (c .before .before .before .before .before .before .before .before .before .pre .0) _ _ (c .before .before .before .before .before .before .before .before .before .pre .1) (c .before .before .before .before .before .before .before .before .before .pre .2)
-    ∙ simp (← c .before .before .before .before .before .before .before .slot-start .ensures, ← c .before .before .before .before .before .before .start-of .ensures, ← c .before .before .before .before .before .is-legal .ensures, not-false (c .before .before .before .before .before .is-legal .result) (c .before .before .before .before .if1 .left), ← c .before .before .before .word-of .ensures, some, ← c .before .byte-of .ensures, ← c .is-attribute .ensures))
+    ∙ simp (← c .before .before .before .before .before .before .before .slot-start .ensures, ← c .before .before .before .before .before .before .start-of .ensures .at, ← c .before .before .before .before .before .is-legal .ensures, not-false (c .before .before .before .before .before .is-legal .result) (c .before .before .before .before .if1 .left), ← c .before .before .before .word-of .ensures, some, ← c .before .byte-of .ensures, ← c .is-attribute .ensures))
 
 pub entry-good-spec : {M : Type 1} → statement M
 entry-good-spec =

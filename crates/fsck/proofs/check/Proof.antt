@@ -3,7 +3,7 @@
 use native.Mathlib.Omega.{arith}
 use mathlib.Core.Path.{sym, _∙_}
 use borrow.Author.Needs.{needs}
-use Rattle.disc.specs.Laws.{geometry-is, geometry-wrong, image-of}
+use Rattle.disc.specs.Laws.{opened, geometry-wrong}
 use Rattle.fsck.specs.Answer.{after-size, after-rule}
 use Rattle.fsck.proofs.check.Statement.{statement}
 use Rattle.fsck.proofs.check.Tie as tie
@@ -18,20 +18,20 @@ enum-told : tie.Need-enum-told
 enum-told c = search needs
 
 returns : tie.Need-returns
-returns c = record { numbers = sym (after-size _ (geometry-wrong _ (sym (c .before .before .geometry-of .ensures) ∙ c .enum-told .given .1))); named = tt }
+returns c = record { numbers = sym (after-size _ _ (geometry-wrong _ _ (sym (c .before .before .geometry-of .ensures) ∙ c .enum-told .given .1))); named = tt }
 
 lowest-broken-requires : tie.Need-lowest-broken-requires
-lowest-broken-requires c κs = image-of _ _ (sym (c .before .before .before .geometry-of .ensures) ∙ c .before .g .given .1)
+lowest-broken-requires c κs = opened _ _ _ (sym (c .before .before .before .geometry-of .ensures) ∙ c .before .g .given .1) .on-image
 
 returns-2 : tie.Need-returns-2
 returns-2 c =
-    let size = geometry-is _ _ (sym (c .before .before .before .before .before .geometry-of .ensures) ∙ c .before .before .before .g .given .1) in
-    record { numbers = sym (after-rule _ _ size _ (sym (c .before .lowest-broken .ensures) ∙ c .if1 .taken)); named = tt }
+    let size = opened _ (c .before .before .before .before .before .before .before .args .image .now) _ (sym (c .before .before .before .before .before .geometry-of .ensures) ∙ c .before .before .before .g .given .1) in
+    record { numbers = sym (after-rule size _ (sym (c .before .lowest-broken .ensures) ∙ c .if1 .taken)); named = tt }
 
 returns-3 : tie.Need-returns-3
 returns-3 c =
-    let size = geometry-is _ _ (sym (c .before .before .before .before .before .geometry-of .ensures) ∙ c .before .before .before .g .given .1) in
-    record { numbers = sym (after-rule _ _ size _ (sym (c .before .lowest-broken .ensures))); named = omega (arith, c .if1 .left) }
+    let size = opened _ (c .before .before .before .before .before .before .before .args .image .now) _ (sym (c .before .before .before .before .before .geometry-of .ensures) ∙ c .before .before .before .g .given .1) in
+    record { numbers = sym (after-rule size _ (sym (c .before .lowest-broken .ensures))); named = omega (arith, c .if1 .left) }
 
 pub check-spec : {M : Type 1} → statement M
 check-spec =

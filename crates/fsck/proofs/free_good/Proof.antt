@@ -1,16 +1,15 @@
 -- `fsck::free_good` meets its contract.
 -- Assumes nothing.
 use borrow.Author.Needs.{needs}
-use Rattle.disc.specs.Laws.{inside}
 use Rattle.fsck.specs.Free.{free-broken, free-ended}
 use Rattle.fsck.proofs.free_good.Statement.{statement}
 use Rattle.fsck.proofs.free_good.Tie as tie
 
-pair-of-requires : tie.Need-pair-of-requires
-pair-of-requires c κs = search needs
+step-of-requires : tie.Need-step-of-requires
+step-of-requires c κs = search needs
 
 follow-requires : tie.Need-follow-requires
-follow-requires c κs = (c .before .before .before .pre, inside (c .before .before .before .pre .valid) (c .before .pair-of .result) _ _ (c .before .pair-of .ensures))
+follow-requires c κs = (c .before .before .before .pre, c .before .step-of .ensures .1)
 
 enum-known-count : tie.Need-enum-known-count
 enum-known-count c = search needs
@@ -19,7 +18,7 @@ enum-told : tie.Need-enum-told
 enum-told c = search needs
 
 returns : tie.Need-returns
-returns c = free-broken _ _ (c .before .before .before .before .pair-of .ensures) (c .before .before .follow .ensures) (c .enum-told .given .1)
+returns c = free-broken _ _ (c .before .before .before .before .step-of .ensures .0) (c .before .before .follow .ensures) (c .enum-told .given .1)
 
 word-of-requires : tie.Need-word-of-requires
 word-of-requires c κs = search needs
@@ -28,13 +27,13 @@ cast-result : tie.Need-cast-result
 cast-result c = search needs
 
 returns-2 : tie.Need-returns-2
-returns-2 c = free-ended _ _ (c .before .before .before .before .before .before .pair-of .ensures) (c .before .before .before .before .follow .ensures) _ _ (c .before .before .count .given .1) _ (c .word-of .ensures)
+returns-2 c = free-ended _ _ (c .before .before .before .before .before .before .step-of .ensures .0) (c .before .before .before .before .follow .ensures) _ _ (c .before .before .count .given .1) _ (c .word-of .ensures)
 
 pub free-good-spec : {M : Type 1} → statement M
 free-good-spec =
     tie.close
     (tie.spec
-    pair-of-requires
+    step-of-requires
     follow-requires
     enum-known-count
     enum-told

@@ -2,7 +2,7 @@
 -- Assumes nothing.
 use borrow.Author.Needs.{needs}
 use mathlib.Core.Path.{sym, _∙_}
-use Rattle.disc.specs.Laws.{geometry-is, geometry-wrong, image-of}
+use Rattle.disc.specs.Laws.{opened, geometry-wrong}
 use Rattle.listing.specs.Answer.{after-size, after-on}
 use Rattle.listing.proofs.list.Statement.{statement}
 use Rattle.listing.proofs.list.Tie as tie
@@ -17,12 +17,12 @@ enum-known-g : tie.Need-enum-known-g
 enum-known-g c = search needs
 
 list-on-requires : tie.Need-list-on-requires
-list-on-requires c κs = image-of _ (c .before .before .before .before .before .before .before .args .image .now) (sym (c .before .before .before .before .geometry-of .ensures) ∙ c .before .before .g .given .1)
+list-on-requires c κs = opened _ (c .before .before .before .before .before .before .before .args .image .now) _ (sym (c .before .before .before .before .geometry-of .ensures) ∙ c .before .before .g .given .1) .on-image
 
 returns : tie.Need-returns
 returns c =
     let a = c .before .before .before .before .before .args in
-    after-size (a .image .now) (a .buffer .now) (geometry-wrong _ (sym (c .before .before .geometry-of .ensures) ∙ c .enum-told .given .1))
+    after-size (a .image .now) (a .buffer .now) _ (geometry-wrong _ _ (sym (c .before .before .geometry-of .ensures) ∙ c .enum-told .given .1))
 
 same-length : tie.Need-same-length
 same-length c = search needs
@@ -30,7 +30,7 @@ same-length c = search needs
 returns-2 : tie.Need-returns-2
 returns-2 c =
     let a = c .before .before .before .before .before .before .before .before .before .before .args in
-    c .before .before .list-on .ensures ∙ after-on (a .image .now) (a .buffer .now) _ (geometry-is _ _ (sym (c .before .before .before .before .before .before .before .geometry-of .ensures) ∙ c .before .before .before .before .before .g .given .1))
+    c .before .before .list-on .ensures ∙ after-on (a .image .now) (a .buffer .now) (opened _ (a .image .now) _ (sym (c .before .before .before .before .before .before .before .geometry-of .ensures) ∙ c .before .before .before .before .before .g .given .1))
 
 pub list-spec : {M : Type 1} → statement M
 list-spec =

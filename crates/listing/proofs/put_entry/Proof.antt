@@ -57,7 +57,7 @@ returns c =
     let a = c .before .before .before .before .before .before .before .before .before .before .before .before .before .args in
     let s : Slot = slotAt (sectorsOf (a .g) (a .image .now)) (a .n .0) (a .i) in
     let start : ℕ = c .before .before .before .before .before .before .before .before .before .before .start-of .result + c .before .before .before .before .before .before .before .before .before .slot-start .result in
-    let name = name-at (c .before .before .before .before .before .before .before .before .before .before .before .before .before .pre .0) (a .n .0) (a .i) start (omega arith) (omega arith) (omega (arith, c .before .before .before .before .before .before .before .before .before .before .start-of .ensures, c .before .before .before .before .before .before .before .before .before .slot-start .ensures)) in
+    let name = name-at (c .before .before .before .before .before .before .before .before .before .before .before .before .before .pre .0) (a .n .0) (a .i) start (omega arith) (omega arith) (omega (arith, c .before .before .before .before .before .before .before .before .before .before .start-of .ensures .at, c .before .before .before .before .before .before .before .before .before .slot-start .ensures)) in
     let long = two-bytes (c .before .before .before .before .before .before .before .low .ensures) (c .before .before .before .before .before .before .high .ensures) (c .before .before .before .before .before .before .before .before .entry-of .ensures .length-is) in
     let numbers = ap₂ (λ (xs : List ℕ) (x : ℕ). xs ++ x ∷ []) long (c .before .before .before .before .before .before .before .before .entry-of .ensures .attribute-is) in
     stored-as (ap₂ (λ (xs ys : List ℕ). 2 ∷ xs ++ ys) name numbers ∙ ap (λ (xs : List ℕ). 2 ∷ xs) (sym (append-assoc (nameOf s) (word (lengthOf s)) (attributeOf s ∷ [])))) (c .before .before .put-record .ensures)

@@ -6,8 +6,9 @@ use native.Mathlib.Omega.{arith}
 use lib.ListN.{length, replicate, length-set, length-replicate}
 use lib.Seq.{sets}
 use borrow.Author.Needs.{needs}
+use Rattle.disc.specs.Laws.{each-once}
 use Rattle.format.specs.GeometryLaws.{sets-cut}
-use Rattle.disc.specs.Meaning.{geo, sectorsOf}
+use Rattle.disc.specs.Meaning.{geo, sectorsOf, form}
 use Rattle.modules.specs.Laws.{zeros-step}
 use Rattle.modules.proofs.clear_from.Statement.{statement}
 use Rattle.modules.proofs.clear_from.Tie as tie
@@ -54,8 +55,8 @@ returns c =
     let a = c .before .before .before .before .args in
     let none-left : 256 - loop .i ≡ 0 = omega arith in
     ap (sectorsOf (a .g)) (ap (λ (j : ℕ). sets (loop .image) (start-of .result + loop .i) (replicate j 0)) (sym none-left) ∙ loop .inv .3)
-    ∙ ap (λ (j : ℕ). sectorsOf (a .g) (sets (a .image .now) (j + a .k) (replicate (256 - a .k) 0))) (start-of .ensures)
-    ∙ sets-cut (geo (a .g)) (a .image .now) (a .n .0) (a .k) (replicate (256 - a .k) 0) (omega arith) (omega (arith, length-replicate {A = ℕ} (256 - a .k) 0))
+    ∙ ap (λ (j : ℕ). sectorsOf (a .g) (sets (a .image .now) (j + a .k) (replicate (256 - a .k) 0))) (start-of .ensures .at)
+    ∙ sets-cut (form (a .g)) (geo (a .g)) (each-once (c .before .before .before .before .pre .0 .valid)) (a .image .now) (a .n .0) (a .k) (replicate (256 - a .k) 0) (omega arith) (omega (arith, length-replicate {A = ℕ} (256 - a .k) 0))
 
 pub clear-from-spec : {M : Type 1} → statement M
 clear-from-spec =

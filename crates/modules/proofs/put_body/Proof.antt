@@ -3,8 +3,9 @@
 use mathlib.Core.Path.{refl}
 use native.Mathlib.Omega.{arith}
 use borrow.Author.Needs.{needs}
+use Rattle.disc.specs.Laws.{image-full}
 use Rattle.format.specs.Geometry.{Disc}
-use Rattle.format.specs.GeometryLaws.{cut-full, sector-full}
+use Rattle.format.specs.GeometryLaws.{sector-full}
 use Rattle.format.specs.Layout.{linkBytes}
 use Rattle.disc.specs.Meaning.{geo, meaning, sectorsOf}
 use Rattle.modules.specs.Laws.{four-puts}
@@ -40,7 +41,7 @@ returns c =
     let a = c .before .before .before .before .before .before .before .before .before .before .before .before .before .before .before .before .before .before .before .args in
     let d : Disc = sectorsOf (a .g) (a .image .now) in
     let pre = c .before .before .before .before .before .before .before .before .before .before .before .before .before .before .before .before .before .before .before .pre in
-    let full = cut-full (geo (a .g)) (a .image .now) (omega (arith, pre)) in
+    let full = image-full (pre .0) in
     four-puts d (a .n .0) (omega (arith, pre, full .many)) (linkBytes (geo (a .g)) (meaning (a .next))) (a .head .now) (a .part .now) _ _ _ _
     (sector-full full (a .n .0) (omega (arith, pre))) refl (omega (arith, pre))
     (c .before .before .before .before .before .before .before .before .before .before .before .before .before .before .put-link .ensures)

@@ -9,7 +9,7 @@ use lib.Seq.{sets, take-nil}
 use borrow.Author.Needs.{needs}
 use Rattle.format.specs.Geometry.{sector}
 use Rattle.format.specs.Modules.{plain}
-use Rattle.disc.specs.Meaning.{geo, sectorsOf}
+use Rattle.disc.specs.Meaning.{geo, sectorsOf, Lies}
 use Rattle.reading.specs.Plain.{laterBytes}
 use Rattle.reading.specs.Meaning.{bytesIn, bodiesOf, fileBodies, bodiesAfter, Followed}
 use Rattle.reading.specs.FileLaws.{file-followed, followed-leads, followed-step, bytes-step, none-follow}
@@ -18,31 +18,32 @@ use Rattle.reading.proofs.copy_module.Statement.{statement}
 use Rattle.reading.proofs.copy_module.Tie as tie
 
 abbrev Inv-loop : tie.InvT-loop
-Inv-loop image g count size buffer₀ at₀ n₀ j₀ buffer at n j =
+Inv-loop image g count size buffer₀ at₀ s₀ j₀ buffer at s j =
     (j ≤ count)
-    × Followed g image (n .0) (count - j)
+    × Followed g image (s .number .0) (count - j)
     × (at ≤ size)
     × (length buffer ≡ length buffer₀)
-    × (sets buffer at (take (size - at) (laterBytes (bodiesAfter g image (n .0) (count - j))))
-    ≡ sets buffer₀ at₀ (take (size - at₀) (laterBytes (bodiesAfter g image (n₀ .0) (count - j₀)))))
+    × (sets buffer at (take (size - at) (laterBytes (bodiesAfter g image (s .number .0) (count - j))))
+    ≡ sets buffer₀ at₀ (take (size - at₀) (laterBytes (bodiesAfter g image (s₀ .number .0) (count - j₀)))))
+    × Lies g s
 
 abbrev μ-loop : tie.MeasureT-loop
-μ-loop image g count size buffer₀ at₀ n₀ j₀ buffer at n j = count - j
+μ-loop image g count size buffer₀ at₀ s₀ j₀ buffer at s j = count - j
 
 copy-part-requires : tie.Need-copy-part-requires Inv-loop μ-loop
 copy-part-requires c κs =
     let pre = c .before .before .before .pre in
-    (pre .0 .on-image, pre .0 .on-disc, omega arith, omega arith, pre .2)
+    (pre .0 .on-image, pre .3, omega arith, omega arith, pre .2)
 
 loop-holds : tie.Need-loop-holds Inv-loop μ-loop
 loop-holds c =
     let pre = c .before .before .before .before .before .before .pre in
-    (pre .0 .some-sector, file-followed (pre .0), c .before .before .copy-part .ensures .inside, refl, refl)
+    (pre .0 .some-sector, file-followed (pre .0), c .before .before .copy-part .ensures .inside, refl, refl, pre .3)
 
 next-of-requires : tie.Need-next-of-requires Inv-loop μ-loop
 next-of-requires c κs =
     let f = c .before .loop .inv .1 in
-    (c .before .before .before .before .before .before .before .before .pre .0 .on-image, f .on-disc, followed-leads _ _ _ f (c .loop-test .taken))
+    (c .before .before .before .before .before .before .before .before .pre .0 .on-image, c .before .loop .inv .5, followed-leads _ _ _ f (c .loop-test .taken))
 
 copy-part-requires-2 : tie.Need-copy-part-requires-2 Inv-loop μ-loop
 copy-part-requires-2 c κs =
@@ -64,17 +65,18 @@ loop-again c =
     let a = c .before .before .before .before .before .before .before .before .before .before .before .before .before .args in
     let inv = loop .inv in
     let j : ℕ = loop .j in
-    let m : ℕ = next-of .result .0 in
+    let m : ℕ = next-of .result .number .0 in
     let on = c .before .before .before .before .before .loop-test .taken in
     let link = next-of .ensures .0 in
     let copied = c .before .before .copy-part2 .ensures in (
       omega arith,
-      followed-step (loop .n .0) (a .count) j (inv .1) on m link (next-of .ensures .1),
+      followed-step (loop .s .number .0) (a .count) j (inv .1) on m link (next-of .ensures .1 .on),
       copied .inside,
       copied-long copied ∙ inv .3,
       copied-on copied (inv .2) (laterBytes (bodiesAfter (a .g) (a .image .now) m (a .count - (j + 1))))
-          ∙ ap (λ (xs : List ℕ). sets (loop .buffer) (loop .at) (take (a .size - loop .at) xs)) (sym (bytes-step (loop .n .0) (a .count) j (inv .1) on m link))
+          ∙ ap (λ (xs : List ℕ). sets (loop .buffer) (loop .at) (take (a .size - loop .at) xs)) (sym (bytes-step (loop .s .number .0) (a .count) j (inv .1) on m link))
           ∙ inv .4,
+      next-of .ensures .1,
     )
 
 same-length : tie.Need-same-length Inv-loop μ-loop
@@ -86,17 +88,17 @@ returns c =
     let pre = c .before .before .before .before .before .before .before .before .pre in
     let a = c .before .before .before .before .before .before .before .before .args in
     let d = sectorsOf (a .g) (a .image .now) in
-    let rest : List ℕ = laterBytes (bodiesAfter (a .g) (a .image .now) (a .first .0) (a .count - 1)) in
+    let rest : List ℕ = laterBytes (bodiesAfter (a .g) (a .image .now) (a .first .number .0) (a .count - 1)) in
     let left : ℕ = a .size - loop .at in
-    let end = ap (λ (ns : List ℕ). take left (laterBytes (bodiesOf d ns))) (none-follow (geo (a .g)) d (loop .n .0) (a .count - loop .j) (omega arith)) ∙ take-nil left in
+    let end = ap (λ (ns : List ℕ). take left (laterBytes (bodiesOf d ns))) (none-follow (geo (a .g)) d (loop .s .number .0) (a .count - loop .j) (omega arith)) ∙ take-nil left in
     let whole : a .size - 0 ≡ a .size = omega arith in
     let bytes = file-bytes (pre .0) (a .size) (pre .1) in
     sym (ap (sets (loop .buffer) (loop .at)) end)
     ∙ loop .inv .4
     ∙ copied-on (c .before .before .before .before .copy-part .ensures) (omega arith) rest
-    ∙ ap (λ (k : ℕ). sets (a .buffer .now) 0 (take k (drop 11 (sector d (a .first .0)) ++ rest))) whole
+    ∙ ap (λ (k : ℕ). sets (a .buffer .now) 0 (take k (drop 11 (sector d (a .first .number .0)) ++ rest))) whole
     ∙ ap (sets (a .buffer .now) 0) bytes
-    ∙ stored-front (a .buffer .now) (bytesIn (plain (fileBodies (a .g) (a .image .now) (a .first .0) (a .count)))) (omega (arith, sym (ap length bytes), length-take (a .size) (drop 11 (sector d (a .first .0)) ++ rest), pre .2))
+    ∙ stored-front (a .buffer .now) (bytesIn (plain (fileBodies (a .g) (a .image .now) (a .first .number .0) (a .count)))) (omega (arith, sym (ap length bytes), length-take (a .size) (drop 11 (sector d (a .first .number .0)) ++ rest), pre .2))
 
 pub copy-module-spec : {M : Type 1} → statement M
 copy-module-spec =

@@ -7,9 +7,10 @@ use mathlib.Core.List.{[]}
 use lib.ListN.{length, take, drop, length-set, length-take, length-drop}
 use lib.Seq.{sets, slice}
 use borrow.Author.Needs.{needs}
+use Rattle.disc.specs.Laws.{image-full}
 use Rattle.format.specs.Geometry.{startOf, sector}
-use Rattle.format.specs.GeometryLaws.{cut-full, sector-full}
-use Rattle.disc.specs.Meaning.{geo, sectorsOf}
+use Rattle.format.specs.GeometryLaws.{sector-full}
+use Rattle.disc.specs.Meaning.{geo, sectorsOf, form}
 use Rattle.reading.specs.SectorLaws.{sector-from, slice-end}
 use Rattle.reading.specs.CopyLaws.{slice-front, copy-step}
 use Rattle.reading.proofs.copy_part.Statement.{statement}
@@ -23,9 +24,6 @@ Inv-loop image k buffer₀ at end start size i₀ buffer i =
 
 abbrev μ-loop : tie.MeasureT-loop
 μ-loop image k buffer₀ at end start size i₀ buffer i = size - i
-
-start-of-requires : tie.Need-start-of-requires Inv-loop μ-loop
-start-of-requires c κs = search needs
 
 add-start : tie.Need-add-start Inv-loop μ-loop
 add-start c = search needs
@@ -42,7 +40,7 @@ min-requires c κs = search needs
 loop-holds : tie.Need-loop-holds Inv-loop μ-loop
 loop-holds c =
     let a = c .before .before .before .before .args in
-    let start : ℕ = c .before .start-of .result + a .k in
+    let start : ℕ = a .s .start + a .k in
     let size : ℕ = c .min .result in
     let e : start + 0 ≡ start = omega arith in
     let f : a .at + 0 ≡ a .at = omega arith in
@@ -71,7 +69,7 @@ loop-again c =
     let loop = c .before .before .loop in
     let a = c .before .before .before .before .before .before .before .args in
     let inv = loop .inv in
-    let start : ℕ = c .before .before .before .before .start-of .result + a .k in
+    let start : ℕ = a .s .start + a .k in
     let step = copy-step (a .image .now) (loop .buffer) start (a .at) (loop .i) (start + c .before .before .before .min .result) (omega arith) (omega arith) in
     (omega arith, simp length-set (inv .1), step ∙ inv .2)
 
@@ -84,22 +82,22 @@ same-length c = search needs
 returns : tie.Need-returns Inv-loop μ-loop
 returns c =
     let loop = c .before .loop in
-    let start-of = c .before .before .before .start-of in
-    let a = c .before .before .before .before .before .before .args in
-    let s = sector (sectorsOf (a .g) (a .image .now)) (a .n .0) in
+    let begin = c .before .before .before .before .before .before in
+    let a = begin .args in
+    let s = sector (sectorsOf (a .g) (a .image .now)) (a .s .number .0) in
     let size : ℕ = c .before .before .min .result in
-    let start : ℕ = startOf (geo (a .g)) (a .n .0) in
-    let full = cut-full (geo (a .g)) (a .image .now) (omega arith) in
-    let long : length s ≡ 256 = sector-full full (a .n .0) (omega arith) in
+    let start : ℕ = startOf (form (a .g)) (geo (a .g)) (a .s .number .0) in
+    let full = image-full (begin .pre .0) in
+    let long : length s ≡ 256 = sector-full full (a .s .number .0) (omega arith) in
     let part : take (a .end - a .at) (drop (a .k) s) ≡ slice (start + a .k) (start + a .k + size) (a .image .now) =
-    ap (take (a .end - a .at)) (sector-from (c .before .before .before .before .before .before .pre .0) (a .n .0) (a .k) (omega arith))
+    ap (take (a .end - a .at)) (sector-from (begin .pre .0) (a .s .number .0) (a .k) (omega arith))
     ∙ slice-front (a .image .now) (start + a .k) (start + 256) (a .end - a .at) size (omega arith) (omega arith) in
-    let done : slice (start-of .result + a .k + loop .i) (start-of .result + a .k + size) (a .image .now) ≡ [] =
-    slice-end (a .image .now) (start-of .result + a .k) (loop .i) (start-of .result + a .k + size) (omega arith) in
+    let done : slice (a .s .start + a .k + loop .i) (a .s .start + a .k + size) (a .image .now) ≡ [] =
+    slice-end (a .image .now) (a .s .start + a .k) (loop .i) (a .s .start + a .k + size) (omega arith) in
     record {
       stored = ap (sets (loop .buffer) (a .at + loop .i)) (sym done)
           ∙ loop .inv .2
-          ∙ ap (λ (j : ℕ). sets (a .buffer .now) (a .at) (slice (j + a .k) (j + a .k + size) (a .image .now))) (start-of .ensures)
+          ∙ ap (λ (j : ℕ). sets (a .buffer .now) (a .at) (slice (j + a .k) (j + a .k + size) (a .image .now))) (begin .pre .1 .at)
           ∙ ap (sets (a .buffer .now) (a .at)) (sym part);
       next = omega (arith, length-take (a .end - a .at) (drop (a .k) s), length-drop (a .k) s, long);
       inside = omega arith;
@@ -111,7 +109,6 @@ copy-part-spec =
     (tie.spec
     Inv-loop
     μ-loop
-    start-of-requires
     add-start
     sub-min
     sub-min-2

@@ -4,9 +4,10 @@ use mathlib.Core.Path.{_≡_, sym, _∙_}
 use native.Mathlib.Omega.{arith}
 use lib.ListN.{length}
 use borrow.Author.Needs.{needs}
+use Rattle.disc.specs.Laws.{image-full}
 use Rattle.format.specs.Geometry.{sector}
-use Rattle.format.specs.GeometryLaws.{cut-full, sector-full}
-use Rattle.disc.specs.Meaning.{geo, sectorsOf}
+use Rattle.format.specs.GeometryLaws.{sector-full}
+use Rattle.disc.specs.Meaning.{sectorsOf}
 use Rattle.reading.specs.SectorLaws.{filled-yes, filled-no}
 use Rattle.reading.proofs.filled_at.Statement.{statement}
 use Rattle.reading.proofs.filled_at.Tie as tie
@@ -17,8 +18,8 @@ sub-min c = search needs
 min-requires : tie.Need-min-requires
 min-requires c κs = search needs
 
-byte-of-requires : tie.Need-byte-of-requires
-byte-of-requires c κs = search needs
+byte-in-requires : tie.Need-byte-in-requires
+byte-in-requires c κs = search needs
 
 cast-if1 : tie.Need-cast-if1
 cast-if1 c = search needs
@@ -26,9 +27,9 @@ cast-if1 c = search needs
 returns : tie.Need-returns
 returns c =
     let a = c .before .before .before .before .args in
-    let full = cut-full (geo (a .g)) (a .image .now) (omega arith) in
-    let long : length (sector (sectorsOf (a .g) (a .image .now)) (a .n .0)) ≡ 256 = sector-full full (a .n .0) (omega arith) in
-    sym (filled-no _ (a .k) (a .left) (c .before .before .min .result) long (omega arith) (c .before .before .min .ensures) (λ e. c .if1 .taken (c .before .byte-of .ensures ∙ e)))
+    let full = image-full (c .before .before .before .before .pre .0) in
+    let long : length (sector (sectorsOf (a .g) (a .image .now)) (a .s .number .0)) ≡ 256 = sector-full full (a .s .number .0) (omega arith) in
+    sym (filled-no _ (a .k) (a .left) (c .before .before .min .result) long (omega arith) (c .before .before .min .ensures) (λ e. c .if1 .taken (c .before .byte-in .ensures ∙ e)))
 
 add-zero-from : tie.Need-add-zero-from
 add-zero-from c = search needs
@@ -42,9 +43,9 @@ zero-from-requires c κs = search needs
 returns-2 : tie.Need-returns-2
 returns-2 c =
     let a = c .before .before .before .before .before .args in
-    let full = cut-full (geo (a .g)) (a .image .now) (omega arith) in
-    let long : length (sector (sectorsOf (a .g) (a .image .now)) (a .n .0)) ≡ 256 = sector-full full (a .n .0) (omega arith) in
-    c .zero-from .ensures ∙ sym (filled-yes _ (a .k) (a .left) (c .before .before .before .min .result) long (omega arith) (c .before .before .before .min .ensures) (sym (c .before .before .byte-of .ensures) ∙ c .before .if1 .left))
+    let full = image-full (c .before .before .before .before .before .pre .0) in
+    let long : length (sector (sectorsOf (a .g) (a .image .now)) (a .s .number .0)) ≡ 256 = sector-full full (a .s .number .0) (omega arith) in
+    c .zero-from .ensures ∙ sym (filled-yes _ (a .k) (a .left) (c .before .before .before .min .result) long (omega arith) (c .before .before .before .min .ensures) (sym (c .before .before .byte-in .ensures) ∙ c .before .if1 .left))
 
 pub filled-at-spec : {M : Type 1} → statement M
 filled-at-spec =
@@ -52,7 +53,7 @@ filled-at-spec =
     (tie.spec
     sub-min
     min-requires
-    byte-of-requires
+    byte-in-requires
     cast-if1
     returns
     add-zero-from

@@ -22,20 +22,20 @@ returns : tie.Need-returns
 returns c =
     let numbers-of = c .before .before .before .numbers-of in
     let a = c .before .before .before .before .before .args in
-    let s = sector (sectorsOf (a .g) (a .image .now)) (a .n .0) in
+    let s = sector (sectorsOf (a .g) (a .image .now)) (a .s .number .0) in
     sym (numbers-refused s (a .count) (numbers-of .result) (numbers-of .ensures) (not-true _ (c .if1 .taken)))
 
 sectors-for-requires : tie.Need-sectors-for-requires
 sectors-for-requires c κs =
     let size = ap (λ (h : Header). h .length) (c .before .before .before .numbers-of .ensures) in
-    let small = body-small (c .before .before .before .before .before .pre .0) (λ i. omega (arith, c .before .before .before .before .shared-slice-known .given i)) (c .before .before .before .before .before .args .n .0) (omega arith) in
+    let small = body-small (c .before .before .before .before .before .pre .0) (λ i. omega (arith, c .before .before .before .before .shared-slice-known .given i)) (c .before .before .before .before .before .args .s .number .0) (omega arith) in
     omega (arith, size, small 4 (omega arith), small 5 (omega arith))
 
 returns-2 : tie.Need-returns-2
 returns-2 c =
     let numbers-of = c .before .before .before .before .before .numbers-of in
     let a = c .before .before .before .before .before .before .before .args in
-    let s = sector (sectorsOf (a .g) (a .image .now)) (a .n .0) in
+    let s = sector (sectorsOf (a .g) (a .image .now)) (a .s .number .0) in
     sym (count-refused s (a .count) (numbers-of .result) (numbers-of .ensures) (not-false _ (c .before .before .if1 .left))
     (λ q. c .if2 .taken (c .before .sectors-for .ensures ∙ q)))
 
@@ -46,7 +46,7 @@ returns-3 : tie.Need-returns-3
 returns-3 c =
     let numbers-of = c .before .before .before .before .before .before .before .numbers-of in
     let a = c .before .before .before .before .before .before .before .before .before .args in
-    let s = sector (sectorsOf (a .g) (a .image .now)) (a .n .0) in
+    let s = sector (sectorsOf (a .g) (a .image .now)) (a .s .number .0) in
     sym (by-first-part s (a .count) (numbers-of .result) (numbers-of .ensures) (not-false _ (c .before .before .before .before .if1 .left)) (sym (c .before .before .before .sectors-for .ensures) ∙ c .before .before .if2 .left)
     ∙ simp (sym (c .before .filled-at .ensures) ∙ not-true _ (c .if3 .taken)))
 
@@ -54,7 +54,7 @@ returns-4 : tie.Need-returns-4
 returns-4 c =
     let numbers-of = c .before .before .before .before .before .before .before .numbers-of in
     let a = c .before .before .before .before .before .before .before .before .before .args in
-    let s = sector (sectorsOf (a .g) (a .image .now)) (a .n .0) in
+    let s = sector (sectorsOf (a .g) (a .image .now)) (a .s .number .0) in
     sym (by-first-part s (a .count) (numbers-of .result) (numbers-of .ensures) (not-false _ (c .before .before .before .before .if1 .left)) (sym (c .before .before .before .sectors-for .ensures) ∙ c .before .before .if2 .left)
     ∙ simp (sym (c .before .filled-at .ensures) ∙ not-false _ (c .if3 .left)))
 

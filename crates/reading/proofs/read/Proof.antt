@@ -2,7 +2,7 @@
 -- Assumes nothing.
 use borrow.Author.Needs.{needs}
 use mathlib.Core.Path.{sym, ap, _∙_}
-use Rattle.disc.specs.Laws.{image-of, geometry-is, geometry-wrong}
+use Rattle.disc.specs.Laws.{opened, geometry-wrong}
 use Rattle.reading.specs.Answer.{readAnswer}
 use Rattle.reading.specs.AnswerLaws.{read-size, read-image}
 use Rattle.reading.specs.declared.Reading.{Reading}
@@ -22,13 +22,13 @@ enum-known-g : tie.Need-enum-known-g
 enum-known-g c = search needs
 
 read-on-requires : tie.Need-read-on-requires
-read-on-requires c κs = image-of _ (c .before .before .before .before .before .before .before .before .args .image .now) (sym (c .before .before .before .before .geometry-of .ensures) ∙ c .before .before .g .given .1)
+read-on-requires c κs = opened _ (c .before .before .before .before .before .before .before .before .args .image .now) _ (sym (c .before .before .before .before .geometry-of .ensures) ∙ c .before .before .g .given .1) .on-image
 
 returns : tie.Need-returns
 returns c =
     let a = c .before .before .before .before .before .before .before .args in
     ap (λ (r : Reading). readAnswer r (a .buffer .now)) (c .refused .ensures)
-    ∙ read-size (a .image .now) (a .name .now) (a .buffer .now) (geometry-wrong _ (sym (c .before .before .before .geometry-of .ensures) ∙ c .before .enum-told .given .1))
+    ∙ read-size (a .image .now) (a .name .now) (a .buffer .now) _ (geometry-wrong _ _ (sym (c .before .before .before .geometry-of .ensures) ∙ c .before .enum-told .given .1))
 
 same-length : tie.Need-same-length
 same-length c = search needs
@@ -37,7 +37,7 @@ returns-2 : tie.Need-returns-2
 returns-2 c =
     let a = c .before .before .before .before .before .before .before .before .before .before .before .args in
     c .before .before .read-on .ensures
-    ∙ read-image (a .image .now) (a .name .now) (a .buffer .now) _ (geometry-is _ _ (sym (c .before .before .before .before .before .before .before .geometry-of .ensures) ∙ c .before .before .before .before .before .g .given .1))
+    ∙ read-image (a .image .now) (a .name .now) (a .buffer .now) (opened _ (a .image .now) _ (sym (c .before .before .before .before .before .before .before .geometry-of .ensures) ∙ c .before .before .before .before .before .g .given .1))
 
 pub read-spec : {M : Type 1} → statement M
 read-spec =

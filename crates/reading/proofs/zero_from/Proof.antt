@@ -18,9 +18,6 @@ Inv-loop image k start i₀ i =
 abbrev μ-loop : tie.MeasureT-loop
 μ-loop image k start i₀ i = 256 - i
 
-start-of-requires : tie.Need-start-of-requires Inv-loop μ-loop
-start-of-requires c κs = search needs
-
 loop-holds : tie.Need-loop-holds Inv-loop μ-loop
 loop-holds c = (omega arith, refl)
 
@@ -33,12 +30,12 @@ shared-slice-read-if1 c = search needs
 returns : tie.Need-returns Inv-loop μ-loop
 returns c =
     let loop = c .before .before .before .loop in
-    let start-of = c .before .before .before .before .start-of in
-    let a = c .before .before .before .before .before .before .args in
-    sym (ap (all (eqb 0)) (sector-from (c .before .before .before .before .before .before .pre .0) (a .n .0) (a .k) (omega arith))
-    ∙ ap (λ (j : ℕ). all (eqb 0) (slice (j + a .k) (j + 256) (a .image .now))) (sym (start-of .ensures))
+    let start = c .before .before .before .before in
+    let a = start .args in
+    sym (ap (all (eqb 0)) (sector-from (start .pre .0) (a .s .number .0) (a .k) (omega arith))
+    ∙ ap (λ (j : ℕ). all (eqb 0) (slice (j + a .k) (j + 256) (a .image .now))) (sym (start .pre .1 .at))
     ∙ sym (loop .inv .1)
-    ∙ zeros-stop (a .image .now) (start-of .result) (loop .i) (start-of .result + 256) (omega arith) (omega arith) (c .if1 .taken))
+    ∙ zeros-stop (a .image .now) (a .s .start) (loop .i) (a .s .start + 256) (omega arith) (omega arith) (c .if1 .taken))
 
 add-i : tie.Need-add-i Inv-loop μ-loop
 add-i c = search needs
@@ -49,19 +46,19 @@ loop-less c = search needs
 loop-again : tie.Need-loop-again Inv-loop μ-loop
 loop-again c =
     let loop = c .before .before .before .loop in
-    let start-of = c .before .before .before .before .start-of in
-    let step = zeros-step (c .before .before .before .before .before .before .args .image .now) (start-of .result) (loop .i) (start-of .result + 256) (omega arith) (omega arith) (c .if1 .left) in
+    let a = c .before .before .before .before .args in
+    let step = zeros-step (a .image .now) (a .s .start) (loop .i) (a .s .start + 256) (omega arith) (omega arith) (c .if1 .left) in
     (omega arith, step ∙ loop .inv .1)
 
 returns-2 : tie.Need-returns-2 Inv-loop μ-loop
 returns-2 c =
     let loop = c .before .loop in
-    let start-of = c .before .before .start-of in
-    let a = c .before .before .before .before .args in
-    sym (ap (all (eqb 0)) (sector-from (c .before .before .before .before .pre .0) (a .n .0) (a .k) (omega arith))
-    ∙ ap (λ (j : ℕ). all (eqb 0) (slice (j + a .k) (j + 256) (a .image .now))) (sym (start-of .ensures))
+    let start = c .before .before in
+    let a = start .args in
+    sym (ap (all (eqb 0)) (sector-from (start .pre .0) (a .s .number .0) (a .k) (omega arith))
+    ∙ ap (λ (j : ℕ). all (eqb 0) (slice (j + a .k) (j + 256) (a .image .now))) (sym (start .pre .1 .at))
     ∙ sym (loop .inv .1)
-    ∙ ap (all (eqb 0)) (slice-end (a .image .now) (start-of .result) (loop .i) (start-of .result + 256) (omega arith)))
+    ∙ ap (all (eqb 0)) (slice-end (a .image .now) (a .s .start) (loop .i) (a .s .start + 256) (omega arith)))
 
 pub zero-from-spec : {M : Type 1} → statement M
 zero-from-spec =
@@ -69,7 +66,6 @@ zero-from-spec =
     (tie.spec
     Inv-loop
     μ-loop
-    start-of-requires
     loop-holds
     add-if1
     shared-slice-read-if1

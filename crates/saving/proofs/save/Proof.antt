@@ -4,7 +4,7 @@ use borrow.Author.Needs.{needs}
 use mathlib.Core.Path.{sym, _∙_}
 use Rattle.format.specs.Geometry.{Geometry, Disc}
 use Rattle.format.specs.Calls.{saveOn, afterSave}
-use Rattle.disc.specs.Laws.{image-of, geometry-is, geometry-wrong}
+use Rattle.disc.specs.Laws.{opened, geometry-wrong}
 use Rattle.lookup.specs.Laws.{changed-size, changed-leaves}
 use Rattle.saving.specs.Meaning.{handed}
 use Rattle.saving.proofs.save.Statement.{statement}
@@ -20,13 +20,13 @@ enum-known-g : tie.Need-enum-known-g
 enum-known-g c = search needs
 
 save-on-requires : tie.Need-save-on-requires
-save-on-requires c κs = image-of _ (c .before .before .before .before .before .before .before .before .args .image .now) (sym (c .before .before .before .before .geometry-of .ensures) ∙ c .before .before .g .given .1)
+save-on-requires c κs = opened _ (c .before .before .before .before .before .before .before .before .args .image .now) _ (sym (c .before .before .before .before .geometry-of .ensures) ∙ c .before .before .g .given .1) .on-image
 
 returns : tie.Need-returns
 unfolding afterSave
 returns c =
     let a = c .before .before .before .before .before .before .args in
-    sym (changed-size (a .image .now) (λ (G : Geometry) (d : Disc). saveOn G d (a .name .now) (handed (a .page) (a .start) (a .transfer) (a .sheet .now))) (geometry-wrong _ (sym (c .before .before .geometry-of .ensures) ∙ c .enum-told .given .1)))
+    sym (changed-size _ (a .image .now) (λ (G : Geometry) (d : Disc). saveOn G d (a .name .now) (handed (a .page) (a .start) (a .transfer) (a .sheet .now))) (geometry-wrong _ _ (sym (c .before .before .geometry-of .ensures) ∙ c .enum-told .given .1)))
 
 same-length : tie.Need-same-length
 same-length c = search needs
@@ -36,7 +36,7 @@ unfolding afterSave
 returns-2 c =
     let a = c .before .before .before .before .before .before .before .before .before .before .before .args in
     let e = sym (c .before .before .before .before .before .before .before .geometry-of .ensures) ∙ c .before .before .before .before .before .g .given .1 in
-    changed-leaves (a .image .now) (λ (G : Geometry) (d : Disc). saveOn G d (a .name .now) (handed (a .page) (a .start) (a .transfer) (a .sheet .now))) (c .before .before .before .before .before .g .given .0 .0) _ _ (geometry-is _ _ e) (image-of _ (a .image .now) e) (search needs) (c .before .before .save-on .ensures)
+    changed-leaves (opened _ (a .image .now) _ e) (λ (G : Geometry) (d : Disc). saveOn G d (a .name .now) (handed (a .page) (a .start) (a .transfer) (a .sheet .now))) _ _ (search needs) (c .before .before .save-on .ensures)
 
 pub save-spec : {M : Type 1} → statement M
 save-spec =

@@ -10,7 +10,7 @@ use Rattle.format.specs.Geometry.{Disc, sector}
 use Rattle.format.specs.GeometryLaws.{length-cut, sector-again}
 use Rattle.format.specs.Layout.{inUsePlace, slotStart}
 use Rattle.format.specs.Effects.{withSlot}
-use Rattle.disc.specs.Meaning.{geo, sectorsOf, storedAt}
+use Rattle.disc.specs.Meaning.{geo, sectorsOf, storedAt, form}
 use Rattle.slots.proofs.put_slot.Statement.{statement}
 use Rattle.slots.proofs.put_slot.Tie as tie
 
@@ -38,7 +38,7 @@ returns c =
     let counted : List ℕ = sets (sector d n) inUsePlace (a .in-use ∷ []) in
     c .before .before .put2 .ensures
     ∙ ap₂ (λ (x : Disc) (k : ℕ). storedAt x n k (a .bytes .now)) (c .before .before .before .before .before .before .before .before .put .ensures) (c .before .before .before .before .slot-start .ensures)
-    ∙ sector-again d n (slotStart (a .i)) counted (a .bytes .now) (omega (arith, length-cut (geo (a .g)) (a .image .now), c .before .before .before .before .before .before .before .before .before .before .before .before .pre .0 .valid .total))
+    ∙ sector-again d n (slotStart (a .i)) counted (a .bytes .now) (omega (arith, length-cut (form (a .g)) (geo (a .g)) (a .image .now), c .before .before .before .before .before .before .before .before .before .before .before .before .pre .0 .valid .total))
 
 pub put-slot-spec : {M : Type 1} → statement M
 put-slot-spec =

@@ -42,7 +42,7 @@ returns c =
     let a = c .before .before .before .before .before .before .before .before .args in
     let start : ℕ = c .before .before .before .before .before .start-of .result + a .k in
     let L : ℕ = length (a .bytes .now) in
-    let whole = ap (λ (j : ℕ). take L (drop (j + a .k) (a .image .now))) (c .before .before .before .before .before .start-of .ensures) ∙ part-cut (c .before .before .before .before .before .before .before .before .pre .0) (a .n .0) (a .k) L (omega arith) (omega arith) in
+    let whole = ap (λ (j : ℕ). take L (drop (j + a .k) (a .image .now))) (c .before .before .before .before .before .start-of .ensures .at) ∙ part-cut (c .before .before .before .before .before .before .before .before .pre .0) (a .n .0) (a .k) L (omega arith) (omega arith) in
     let part : List ℕ = take L (drop start (a .image .now)) in
     let long = part-long (a .image .now) start L (c .before .before .before .before .loop .inv .1) in
     let differ = same-stop part (a .bytes .now) (c .before .before .before .before .loop .i) (omega arith) (omega arith) (λ e. c .if1 .taken (sym (part-byte (a .image .now) start L (c .before .before .before .before .loop .inv .1) (c .before .before .before .before .loop .i) (omega arith)) ∙ e)) in
@@ -69,7 +69,7 @@ returns-2 c =
     let a = c .before .before .before .before .before .args in
     let start : ℕ = c .before .before .start-of .result + a .k in
     let L : ℕ = length (a .bytes .now) in
-    let whole = ap (λ (j : ℕ). take L (drop (j + a .k) (a .image .now))) (c .before .before .start-of .ensures) ∙ part-cut (c .before .before .before .before .before .pre .0) (a .n .0) (a .k) L (omega arith) (omega arith) in
+    let whole = ap (λ (j : ℕ). take L (drop (j + a .k) (a .image .now))) (c .before .before .start-of .ensures .at) ∙ part-cut (c .before .before .before .before .before .pre .0) (a .n .0) (a .k) L (omega arith) (omega arith) in
     let part : List ℕ = take L (drop start (a .image .now)) in
     let long = part-long (a .image .now) start L (c .before .loop .inv .1) in
     sym (ap (λ (p : List ℕ). same p (a .bytes .now)) (sym whole) ∙ c .before .loop .inv .2 ∙ same-end part (a .bytes .now) (c .before .loop .i) (omega arith) (omega arith))

@@ -9,7 +9,7 @@ use lib.ListN.{length, take, drop}
 use Rattle.format.specs.Lists.{same}
 use Rattle.format.specs.Geometry.{Disc, startOf, sector}
 use Rattle.format.specs.Layout.{slotStart, slotAt, nameOf}
-use Rattle.disc.specs.Meaning.{geo, sectorsOf}
+use Rattle.disc.specs.Meaning.{geo, sectorsOf, form}
 use Rattle.slots.specs.Laws.{name-front, name-nine, part-cut}
 use Rattle.slots.proofs.same_names.Statement.{statement}
 use Rattle.slots.proofs.same_names.Tie as tie
@@ -48,7 +48,7 @@ returns c =
     let d : Disc = sectorsOf (a .g) (a .image .now) in
     let from : ℕ = c .before .before .before .before .start-of .result + c .before .before .before .slot-start .result in
     let nine : from + 9 - from ≡ 9 = omega arith in
-    let at : from ≡ startOf (geo (a .g)) (a .m .0) + slotStart (a .j) = omega (arith, c .before .before .before .before .start-of .ensures, c .before .before .before .slot-start .ensures) in
+    let at : from ≡ startOf (form (a .g)) (geo (a .g)) (a .m .0) + slotStart (a .j) = omega (arith, c .before .before .before .before .start-of .ensures .at, c .before .before .before .slot-start .ensures) in
     let other : take (from + 9 - from) (drop from (a .image .now)) ≡ nameOf (slotAt d (a .m .0) (a .j)) =
     ap₂ (λ (L k : ℕ). take L (drop k (a .image .now))) nine at
     ∙ part-cut (start .pre .0) (a .m .0) (slotStart (a .j)) 9 (omega arith) (omega arith)

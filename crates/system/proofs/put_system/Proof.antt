@@ -12,7 +12,7 @@ use Rattle.format.specs.Geometry.{Disc, sector}
 use Rattle.format.specs.GeometryLaws.{length-cut, sector-again}
 use Rattle.format.specs.Layout.{freePlace, freeCountPlace}
 use Rattle.format.specs.Effects.{systemWrite}
-use Rattle.disc.specs.Meaning.{geo, sectorsOf, storedAt}
+use Rattle.disc.specs.Meaning.{geo, sectorsOf, storedAt, form}
 use Rattle.system.proofs.put_system.Statement.{statement}
 use Rattle.system.proofs.put_system.Tie as tie
 
@@ -56,7 +56,7 @@ returns c =
     let place = c .before .before .before .before .before .before .before .before .before .before .place-of .ensures in
     c .before .before .put2 .ensures
     ∙ ap (λ (x : Disc). storedAt x 0 freeCountPlace counts) (c .before .before .before .before .before .before .before .put .ensures)
-    ∙ sector-again d 0 freeCountPlace _ counts (omega (arith, length-cut (geo (a .g)) (a .image .now), start .pre .0 .valid .total))
+    ∙ sector-again d 0 freeCountPlace _ counts (omega (arith, length-cut (form (a .g)) (geo (a .g)) (a .image .now), start .pre .0 .valid .total))
     ∙ ap₂ (λ (s t : ℕ). set d 0 (sets (sets (sector d 0) freePlace (s ∷ t ∷ [])) freeCountPlace counts)) (place .1) (place .0)
 
 pub put-system-spec : {M : Type 1} → statement M

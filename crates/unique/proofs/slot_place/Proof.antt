@@ -25,7 +25,7 @@ returns : tie.Need-returns
 returns c =
     let a = c .before .before .before .before .args in
     let pre = c .before .before .before .before .pre in
-    let place = ap₂ (λ (s k : ℕ). placeOf (a .size) (take 9 (drop (s + k) (a .image .now)))) (c .before .before .start-of .ensures) (c .before .slot-start .ensures) in
+    let place = ap₂ (λ (s k : ℕ). placeOf (a .size) (take 9 (drop (s + k) (a .image .now)))) (c .before .before .start-of .ensures .at) (c .before .slot-start .ensures) in
     (c .place-of .ensures .0 ∙ place ∙ ap (placeOf (a .size)) (sym (name-at (pre .0) _ _ (pre .1) (pre .2))), c .place-of .ensures .1)
 
 pub slot-place-spec : {M : Type 1} → statement M

@@ -1,17 +1,33 @@
 -- `view::start_of_view` meets its contract.
 -- Assumes nothing.
-use mathlib.Core.Path.{sym, ap, _∙_}
+use mathlib.Core.Path.{_≡_, sym, ap, _∙_}
+use mathlib.Core.Bool.{true}
 use Prim.Native.Nat.{ℕ, _+_}
 use native.Mathlib.Omega.{arith}
 use borrow.Author.Needs.{needs}
-use Rattle.format.specs.Geometry.{startOf}
-use Rattle.disc.specs.Meaning.{geo}
-use Rattle.disc.specs.Laws.{image-of, geometry-is, geometry-wrong, number-on}
+use Rattle.format.specs.Geometry.{onDisc, startOf}
+use Rattle.disc.specs.declared.Geometry.{Geometry}
+use Rattle.disc.specs.Meaning.{kindOf, form, geo}
+use Rattle.disc.specs.Laws.{Opened, opened, geometry-wrong}
 use Rattle.view.specs.Meaning.{viewStart}
 use Rattle.view.specs.Laws.{view-size, view-absent, view-done}
 use Rattle.view.specs.declared.ViewStart.the-variants.{At}
 use Rattle.view.proofs.start_of_view.Statement.{statement}
 use Rattle.view.proofs.start_of_view.Tie as tie
+
+-- where the geometry is known
+abbrev at-start : tie.After-known-told → tie.Start
+at-start c = c .before .before .before .before .before
+
+abbrev geometry-at : tie.After-known-told → Geometry
+geometry-at c = c .before .g .given .0 .0
+
+opening : (c : tie.After-known-told) → Opened (kindOf (at-start c .args .stated)) (geometry-at c) (at-start c .args .image .now)
+opening c = opened _ _ _ (sym (c .before .before .before .geometry-of .ensures) ∙ c .before .g .given .1)
+
+on-disc-at : (c : tie.Then1)
+    → let known = c .before .before in onDisc (geo (geometry-at known)) (at-start known .args .track) (at-start known .args .sector) ≡ true
+on-disc-at c = sym (c .before .on-disc .ensures) ∙ c .if1 .taken
 
 geometry-of-requires : tie.Need-geometry-of-requires
 geometry-of-requires c κs = search needs
@@ -25,44 +41,38 @@ enum-known-g c = search needs
 on-disc-requires : tie.Need-on-disc-requires
 on-disc-requires c κs = search needs
 
-number-of-requires : tie.Need-number-of-requires
-number-of-requires c κs =
-    let image = c .before .before .before .before .before .before .before .args .image .now in
-    let e = sym (c .before .before .before .before .before .geometry-of .ensures) ∙ c .before .before .before .g .given .1 in
-    (image-of _ image e .valid, sym (c .before .on-disc .ensures) ∙ c .if1 .taken)
+sector-at-requires : tie.Need-sector-at-requires
+sector-at-requires c κs = (opening (c .before .before) .on-image .valid, on-disc-at c)
 
-start-of-requires : tie.Need-start-of-requires
-start-of-requires c κs =
-    let a = c .before .before .before .before .before .before .before .before .args in
-    let e = sym (c .before .before .before .before .before .before .geometry-of .ensures) ∙ c .before .before .before .before .g .given .1 in
-    let on = sym (c .before .before .on-disc .ensures) ∙ c .before .if1 .taken in
-    let image = image-of _ (a .image .now) e in
-    (image .valid, omega (arith, c .number-of .ensures, number-on (image .valid) (a .track) (a .sector) on))
+add-t14 : tie.Need-add-t14
+add-t14 c = omega (arith, c .sector-at .ensures .1 .fits, opening (c .before .before .before) .on-image .valid .few-sectors)
 
-add-t13 : tie.Need-add-t13
-add-t13 c = search needs
+cast-t15 : tie.Need-cast-t15
+cast-t15 c = omega (arith, c .sector-at .ensures .1 .fits, opening (c .before .before .before) .on-image .valid .few-sectors)
 
 returns : tie.Need-returns
 returns c =
-    let g = c .before .before .before .before .before .g .given .0 .0 in
-    let a = c .before .before .before .before .before .before .before .before .before .args in
-    let e = sym (c .before .before .before .before .before .before .before .geometry-of .ensures) ∙ c .before .before .before .before .before .g .given .1 in
-    let on = sym (c .before .before .before .on-disc .ensures) ∙ c .before .before .if1 .taken in
-    let start = c .start-of .ensures ∙ ap (startOf (geo g)) (c .before .number-of .ensures) in
-    ap (λ (k : ℕ). At (k + 2)) start ∙ ap viewStart (sym (view-done (a .image .now) (a .track) (a .sector) _ (geometry-is _ _ e) on))
+    let known = c .before .before .before in
+    let g = geometry-at known in
+    let a = at-start known .args in
+    let o = opening known in
+    let start = c .sector-at .ensures .1 .at ∙ ap (startOf (form g) (geo g)) (c .sector-at .ensures .0) in
+    rw (o .kind-is)
+    (ap (λ (k : ℕ). At (k + 2)) start
+    ∙ ap viewStart (sym (view-done (form g) (a .image .now) (a .track) (a .sector) _ (o .geometry-is) (on-disc-at (c .before)))))
 
 returns-2 : tie.Need-returns-2
 returns-2 c =
-    let image = c .before .before .before .before .args .image .now in
     let e = sym (c .before .before .geometry-of .ensures) ∙ c .enum-told .given .1 in
-    ap viewStart (sym (view-size image _ _ (geometry-wrong _ e)))
+    ap viewStart (sym (view-size _ (c .before .before .before .before .args .image .now) _ _ (geometry-wrong _ _ e)))
 
 returns-3 : tie.Need-returns-3
 returns-3 c =
-    let a = c .before .before .before .before .before .before .before .args in
-    let e = sym (c .before .before .before .before .before .geometry-of .ensures) ∙ c .before .before .before .g .given .1 in
+    let known = c .before .before in
+    let a = at-start known .args in
     let off = sym (c .before .on-disc .ensures) ∙ c .if1 .left in
-    ap viewStart (sym (view-absent (a .image .now) (a .track) (a .sector) _ (geometry-is _ _ e) off))
+    let o = opening known in
+    rw (o .kind-is) (ap viewStart (sym (view-absent _ (a .image .now) (a .track) (a .sector) _ (o .geometry-is) off)))
 
 pub start-of-view-spec : {M : Type 1} → statement M
 start-of-view-spec =
@@ -72,9 +82,9 @@ start-of-view-spec =
     enum-told
     enum-known-g
     on-disc-requires
-    number-of-requires
-    start-of-requires
-    add-t13
+    sector-at-requires
+    add-t14
+    cast-t15
     returns
     returns-2
     returns-3)

@@ -6,6 +6,7 @@ use native.Mathlib.Omega.{arith}
 use lib.ListN.{take, drop}
 use borrow.Author.Needs.{needs}
 use Rattle.format.specs.Geometry.{Part, bytesOf}
+use Rattle.format.specs.MovingLaws.{stated-arranged}
 use Rattle.format.specs.Calls.{viewPart}
 use Rattle.view.specs.Laws.{view-part, refused-part}
 use Rattle.view.proofs.view.Statement.{statement}
@@ -14,14 +15,17 @@ use Rattle.view.proofs.view.Tie as tie
 start-of-view-requires : tie.Need-start-of-view-requires
 start-of-view-requires c κs = search needs
 
-enum-known-start : tie.Need-enum-known-start
-enum-known-start c = search needs
+enum-known-at : tie.Need-enum-known-at
+enum-known-at c = search needs
+
+cast-start : tie.Need-cast-start
+cast-start c = search needs
 
 add-end : tie.Need-add-end
 add-end c =
     let a = c .before .before .before .before .before .args in
-    let at = sym (c .before .before .before .start-of-view .ensures) ∙ c .before .start .given .1 in
-    omega (arith, view-part (a .image .now) (a .track) (a .sector) _ at .1)
+    let at = sym (c .before .before .before .start-of-view .ensures) ∙ c .before .at .given .1 in
+    omega (arith, view-part _ (a .image .now) (a .track) (a .sector) (stated-arranged _ _) _ at .1)
 
 sub-result : tie.Need-sub-result
 sub-result c = search needs
@@ -32,8 +36,8 @@ part-result-start c = search needs
 part-result-end : tie.Need-part-result-end
 part-result-end c =
     let a = c .before .before .before .before .before .args in
-    let at = sym (c .before .before .before .start-of-view .ensures) ∙ c .before .start .given .1 in
-    omega (arith, view-part (a .image .now) (a .track) (a .sector) _ at .1)
+    let at = sym (c .before .before .before .start-of-view .ensures) ∙ c .before .at .given .1 in
+    omega (arith, view-part _ (a .image .now) (a .track) (a .sector) (stated-arranged _ _) _ at .1)
 
 enum-told : tie.Need-enum-told
 enum-told c = search needs
@@ -51,9 +55,9 @@ returns : tie.Need-returns
 unfolding viewPart
 returns c =
     let a = c .before .before .before .before .before .before .args in
-    let at = sym (c .before .before .before .before .start-of-view .ensures) ∙ c .before .before .start .given .1 in
-    let part = view-part (a .image .now) (a .track) (a .sector) _ at in
-    let start : ℕ = c .before .before .start .given .0 .0 in
+    let at = sym (c .before .before .before .before .start-of-view .ensures) ∙ c .before .before .at .given .1 in
+    let part = view-part _ (a .image .now) (a .track) (a .sector) (stated-arranged _ _) _ at in
+    let start : ℕ = c .before .before .at .given .0 .0 in
     let size : start + 254 - start ≡ 254 = omega arith in
     record {
       bytes = ap (λ (k : ℕ). take k (drop start (a .image .now))) size ∙ ap (λ (p : Part). bytesOf p (a .image .now)) (sym (part .0));
@@ -75,7 +79,8 @@ view-spec =
     tie.close
     (tie.spec
     start-of-view-requires
-    enum-known-start
+    enum-known-at
+    cast-start
     add-end
     sub-result
     part-result-start

@@ -1,0 +1,162 @@
+/* The arrangement stated: numbers that are none, the moved form of a disc, and
+ * a run of commands on both forms at once. */
+#include <stdio.h>
+#include <string.h>
+
+#include "calls.h"
+#include "report.h"
+#include "tests.h"
+
+/* In each call other refusals hold as well, on an image that is unsound. */
+static void refused_first(struct disc *disc)
+{
+    struct disc expected = *disc;
+
+    EXPECT_NUMBER(1, try_check(disc).number);
+    EXPECT_NUMBER(1, try_list(disc, 0).number);
+    EXPECT_NUMBER(1, try_read(disc, text("X."), 0).number);
+    EXPECT_NUMBER(1, try_save(disc, text("X."), 8, 0, 0, bytes(sheet, 0)));
+    EXPECT_NUMBER(1, try_delete(disc, text("X.")));
+    EXPECT_NUMBER(1, try_rename(disc, text("X."), text("A")));
+    EXPECT_NUMBER(1, try_protect(disc, text("X."), 1));
+    EXPECT_NUMBER(1, try_blank(disc, text("A.B")));
+    EXPECT_NUMBER(1, try_view_number(disc, 1, 11));
+    expect_disc("disc after refusals", &expected, disc);
+}
+
+/* Nothing else is wrong: a sound disc, and commands that would be done. */
+static void refused_alone(struct disc *disc)
+{
+    struct disc expected = *disc;
+
+    EXPECT_NUMBER(1, try_check(disc).number);
+    EXPECT_NUMBER(1, try_list(disc, 9752).number);
+    EXPECT_NUMBER(1, try_read(disc, text("A"), 245).number);
+    EXPECT_NUMBER(1, try_save(disc, text("C"), 0, 0, 0, bytes(sheet, 1)));
+    EXPECT_NUMBER(1, try_delete(disc, text("A")));
+    EXPECT_NUMBER(1, try_rename(disc, text("A"), text("C")));
+    EXPECT_NUMBER(1, try_protect(disc, text("A"), 1));
+    EXPECT_NUMBER(1, try_blank(disc, text("DISC")));
+    EXPECT_NUMBER(1, try_view_number(disc, 0, 1));
+    expect_disc("disc after refusals", &expected, disc);
+}
+
+/* Cut to fewer bits, some of these would be 0 or 1. */
+static void no_arrangement(void)
+{
+    static const uint32_t numbers[] = {
+        2, 3, 10, 255, 256, 257, 0x10000, 0x10001, 0x80000000, 0x80000001,
+        0xFFFFFFFE, 0xFFFFFFFF
+    };
+    struct disc disc;
+    size_t i;
+
+    for (i = 0; i < sizeof numbers / sizeof numbers[0]; i++) {
+        stated = numbers[i];
+        make_small(&disc);
+        refused_alone(&disc);
+        make_unsound(&disc);
+        refused_first(&disc);
+    }
+}
+
+/* The blank disc of two tracks, moved: position for position, by hand. 0/4, the
+ * directory, and every other byte but these are zeros. */
+static void moved_blank(void)
+{
+    static const struct {
+        unsigned position;
+        uint8_t link[2];
+    } links[] = {
+        { 512, { 0, 10 } }, { 768, { 0, 3 } }, { 1024, { 0, 6 } },
+        { 1280, { 0, 9 } }, { 1536, { 0, 2 } }, { 1792, { 0, 5 } },
+        { 2048, { 0, 8 } }, { 2304, { 1, 1 } }, { 2560, { 1, 4 } },
+        { 2816, { 1, 7 } }, { 3072, { 1, 10 } }, { 3328, { 1, 3 } },
+        { 3584, { 1, 6 } }, { 3840, { 1, 9 } }, { 4096, { 1, 2 } },
+        { 4352, { 1, 5 } }, { 4608, { 1, 8 } }
+    };
+    static uint8_t expected[5120], image[5120];
+    size_t i;
+
+    memcpy(expected + 0x10, "\x07\0\x04\0\x12\0\0\0PIECES   ", 17);
+    memcpy(expected + 0x40, "TANDOS 65 IMAGE 1", 17);
+    for (i = 0; i < sizeof links / sizeof links[0]; i++)
+        memcpy(expected + links[i].position, links[i].link, 2);
+    memset(image, 0xEE, sizeof image);
+    EXPECT_NUMBER(0, tandos_blank(image, sizeof image, TANDOS_MOVED,
+                                  TANDOS_TEXT("PIECES")));
+    expect_bytes("moved blank disc", expected, image, sizeof image);
+}
+
+/* A disc lent in the arrangement in which it is not. */
+static void misstated(void)
+{
+    static uint8_t image[40 * 2560], before[40 * 2560];
+    uint32_t other = stated == TANDOS_PLAIN ? TANDOS_MOVED : TANDOS_PLAIN;
+    struct disc disc;
+
+    make_pieces(&disc);
+    arrange(before, disc.bytes, sizeof before, other);
+    memcpy(image, before, sizeof image);
+    EXPECT_NUMBER(0, tandos_check(image, sizeof image, other).rule);
+    EXPECT_NUMBER(0, tandos_check(image, sizeof image, stated).number);
+    EXPECT_NUMBER(1, tandos_check(image, sizeof image, stated).rule != 0);
+    EXPECT_NUMBER(3, tandos_delete(image, sizeof image, stated,
+                                   TANDOS_TEXT("THU.PCS")));
+    expect_bytes("image after the refusal", before, image, sizeof image);
+    EXPECT_NUMBER(0, tandos_delete(image, sizeof image, other,
+                                   TANDOS_TEXT("THU.PCS")));
+}
+
+/* The step-th command of a run, in the arrangement stated; its number. */
+static uint32_t run_step(struct disc *disc, unsigned step)
+{
+    char name[8], other[8];
+
+    sprintf(name, "F%u", step * 7 % 23);
+    sprintf(other, "F%u", step * 11 % 23);
+    switch (step % 9) {
+    case 0: case 1: case 2: case 3:
+        return save_at_2000(disc, name, bytes(sheet, 1 + step * 97 % 800));
+    case 4: return try_delete(disc, text(name));
+    case 5: return try_rename(disc, text(name), text(other));
+    case 6: return try_protect(disc, text(name), step % 18 < 9);
+    case 7: return try_read(disc, text(name), BUFFER_MAX).number;
+    default: return try_list(disc, 9752).number;
+    }
+}
+
+/* Number, image, and what a read or list left in its buffer. */
+static void compare_step(struct disc *plain, struct disc *moved, unsigned step)
+{
+    static uint8_t plain_answer[BUFFER_MAX];
+    uint32_t number;
+
+    stated = TANDOS_PLAIN;
+    number = run_step(plain, step);
+    memcpy(plain_answer, answer, sizeof answer);
+    stated = TANDOS_MOVED;
+    EXPECT_NUMBER(number, run_step(moved, step));
+    expect_bytes("answer of the run", plain_answer, answer, sizeof answer);
+    expect_disc("disc of the run", plain, moved);
+    EXPECT_NUMBER(0, try_check(moved).rule);
+}
+
+static void run_on_both(void)
+{
+    struct disc plain, moved;
+    unsigned step;
+
+    make_blank(&plain, 4, "RUN      ");
+    moved = plain;
+    for (step = 0; step < 200; step++)
+        compare_step(&plain, &moved, step);
+}
+
+void test_arrangement(void)
+{
+    misstated();
+    moved_blank();
+    run_on_both();
+    no_arrangement();
+}

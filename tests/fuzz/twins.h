@@ -1,0 +1,42 @@
+/*
+ * An image's twin is the same disc in the other arrangement. A call on it
+ * answers the same, writes the same to its buffer, and leaves the twin of what
+ * it leaves in the image. Each function makes the call once more, on the twin,
+ * and expects this; an image with a wrong arrangement has no twin.
+ *
+ * It is asked of each call that a command of the input makes, and of the check
+ * of an image at the start or after a change that no call made. It is not asked
+ * of the calls with which the harness looks at what a command left: these are
+ * most of all calls, and their answers have promises of their own in either
+ * arrangement.
+ */
+#ifndef TWINS_H
+#define TWINS_H
+
+#include "calls.h"
+
+/* After calls that read. What a list or read gave stands in `answer`, before
+ * and after. */
+void twin_check(const struct image *image, tandos_checked checked);
+void twin_list(const struct image *image, tandos_listed listed,
+               size_t buffer_length);
+void twin_read(const struct image *image, const tandos_reading *reading,
+               struct text name, size_t buffer_length);
+void twin_view(const struct image *image, struct viewed viewed, uint32_t track,
+               uint32_t sector);
+
+/* After calls that write: the image before and after, and the answer. */
+struct change {
+    const struct image *before, *after;
+    uint32_t number;
+};
+
+void twin_save(struct change change, struct text name,
+               const struct module *module);
+void twin_delete(struct change change, struct text name);
+void twin_rename(struct change change, struct text old_name,
+                 struct text new_name);
+void twin_protect(struct change change, struct text name, uint32_t on);
+void twin_blank(struct change change, struct text name);
+
+#endif
