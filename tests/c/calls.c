@@ -207,3 +207,16 @@ void expect_disc(const char *what, const struct disc *expected,
     EXPECT_NUMBER(expected->length, found->length);
     expect_bytes(what, expected->bytes, found->bytes, expected->length);
 }
+
+void expect_refused_1(struct disc *disc)
+{
+    EXPECT_NUMBER(1, try_check(disc).number);
+    EXPECT_NUMBER(1, try_list(disc, 9752).number);
+    EXPECT_NUMBER(1, try_read(disc, text("A"), 245).number);
+    EXPECT_NUMBER(1, try_save(disc, text("C"), 0, 0, 0, bytes(sheet, 1)));
+    EXPECT_NUMBER(1, try_delete(disc, text("A")));
+    EXPECT_NUMBER(1, try_rename(disc, text("A"), text("C")));
+    EXPECT_NUMBER(1, try_protect(disc, text("A"), 1));
+    EXPECT_NUMBER(1, try_blank(disc, text("DISC")));
+    EXPECT_NUMBER(1, try_view_number(disc, 0, 1));
+}

@@ -48,4 +48,7 @@ uint32_t save_at_2000(struct disc *disc, const char *name, struct text sheet);
 void expect_disc(const char *what, const struct disc *expected,
                  const struct disc *found);
 
+/* Expects 1 of every call, each of which a disc with A and no C would allow. */
+void expect_refused_1(struct disc *disc);
+
 #endif

@@ -29,15 +29,7 @@ static void refused_alone(struct disc *disc)
 {
     struct disc expected = *disc;
 
-    EXPECT_NUMBER(1, try_check(disc).number);
-    EXPECT_NUMBER(1, try_list(disc, 9752).number);
-    EXPECT_NUMBER(1, try_read(disc, text("A"), 245).number);
-    EXPECT_NUMBER(1, try_save(disc, text("C"), 0, 0, 0, bytes(sheet, 1)));
-    EXPECT_NUMBER(1, try_delete(disc, text("A")));
-    EXPECT_NUMBER(1, try_rename(disc, text("A"), text("C")));
-    EXPECT_NUMBER(1, try_protect(disc, text("A"), 1));
-    EXPECT_NUMBER(1, try_blank(disc, text("DISC")));
-    EXPECT_NUMBER(1, try_view_number(disc, 0, 1));
+    expect_refused_1(disc);
     expect_disc("disc after refusals", &expected, disc);
 }
 

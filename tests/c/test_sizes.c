@@ -5,19 +5,6 @@
 #include "report.h"
 #include "tests.h"
 
-static void refused_for_size(struct disc *disc)
-{
-    EXPECT_NUMBER(1, try_check(disc).number);
-    EXPECT_NUMBER(1, try_list(disc, 9752).number);
-    EXPECT_NUMBER(1, try_read(disc, text("A"), 245).number);
-    EXPECT_NUMBER(1, try_save(disc, text("C"), 0, 0, 0, bytes(sheet, 1)));
-    EXPECT_NUMBER(1, try_delete(disc, text("A")));
-    EXPECT_NUMBER(1, try_rename(disc, text("A"), text("C")));
-    EXPECT_NUMBER(1, try_protect(disc, text("A"), 1));
-    EXPECT_NUMBER(1, try_blank(disc, text("DISC")));
-    EXPECT_NUMBER(1, try_view_number(disc, 0, 1));
-}
-
 /* Nothing lent at all: no call may look behind a NULL. */
 static void nothing_lent(void)
 {
@@ -86,7 +73,7 @@ void test_sizes(void)
     for (i = 0; i < sizeof lengths / sizeof lengths[0]; i++) {
         make_small(&disc);
         disc.length = lengths[i];
-        refused_for_size(&disc);
+        expect_refused_1(&disc);
     }
     nothing_lent();
     no_name_and_no_buffer();

@@ -29,6 +29,13 @@ def example():
     return disc
 
 
+def miscounted():
+    """The same with a used count that breaks rule 7."""
+    disc = example()
+    disc.set_word(USED_COUNT, 9)
+    return disc
+
+
 def write_both(disc):
     write("plain.img", disc.data)
     write("moved.img", moved(disc.data))
@@ -178,9 +185,7 @@ def _():
 @case("hint: check has it in the line of each image")
 def _():
     write_both(example())
-    bad = example()
-    bad.set_word(USED_COUNT, 9)
-    write("bad.img", bad.data)
+    write("bad.img", miscounted().data)
     write("wrong.img", bytes(100))
     images = ["plain.img", "moved.img", "bad.img", "wrong.img"]
     answer = tandos("check", *images)
@@ -231,9 +236,7 @@ def _():
 
 @case("hint: none where the disc is unsound in both, or is not asked about")
 def _():
-    bad = example()
-    bad.set_word(USED_COUNT, 9)
-    write_both(bad)
+    write_both(miscounted())
     for image in ("plain.img", "moved.img"):
         for options in ([], ["--moved"]):
             for command, rest in NEEDS_SOUND.items():
@@ -308,9 +311,7 @@ def _():
 @case("rearrange: a disc that is rearranged already, and a damaged one")
 def _():
     write_both(example())
-    bad = example()
-    bad.set_word(USED_COUNT, 9)
-    write("bad.img", bad.data)
+    write("bad.img", miscounted().data)
     write("wrong.img", bytes(2561))
     with unchanged():
         for output in ("new.img", "-", "moved.img"):
