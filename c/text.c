@@ -9,17 +9,18 @@ struct refusal {
 static const struct refusal refusals[] = {
     [TANDOS_DONE] = { "DONE", "Done: nothing was refused." },
     [TANDOS_SIZE] = { "SIZE",
-        "The image is not 2,560 bytes long for each of 1 to 80 tracks, or the "
-        "arrangement is neither 0 (plain) nor 1 (moved): open a whole image of "
-        "one side of a single density disc, and state its arrangement." },
+        "The image is not as long as 1 to 80 tracks of the sectors stated "
+        "(2,304 bytes a track with 9, 2,560 with 10), or no disc is as stated: "
+        "open a whole image of one side of a single density disc, and state 10 "
+        "sectors a track, plain (0) or moved (1), or 9, plain." },
     [TANDOS_NAME] = { "NAME",
         "The name breaks its rule: give a file name of 1 to 6 of A-Z and 0-9, "
         "then nothing or a dot and 1 to 3 of the same, "
         "or a disc name of 1 to 9 of A-Z and 0-9." },
     [TANDOS_UNSOUND] = { "UNSOUND",
-        "The disc is damaged, or its arrangement is not the one stated: "
-        "check it in both, and go on in the one that is sound "
-        "or with a sound copy of it." },
+        "The disc is damaged, or its sectors a track or its arrangement are "
+        "not the ones stated: check it with the others, and go on with those "
+        "that make it sound, or with a sound copy of it." },
     [TANDOS_ABSENT] = { "ABSENT",
         "No file on the disc has this name: "
         "list the disc to see the names that stand." },
@@ -44,7 +45,7 @@ static const struct refusal refusals[] = {
         "65,536 bytes are enough for any file, 9,752 for any list." },
     [TANDOS_NO_SECTOR] = { "NO SECTOR",
         "There is no such sector on the disc: give a track from 0 to the last "
-        "one and a sector from 1 to 10." }
+        "one and a sector from 1 to the last of a track." }
 };
 
 static const char *const rules[] = {

@@ -6,7 +6,10 @@
 #include "number.h"
 #include "tandos.h"
 
-static const struct option moved_option = { "--moved", NULL, false };
+static const struct option kind_options[KIND_OPTIONS + 1] = {
+    [MOVED_OPTION] = { "--moved", NULL, false },
+    [SECTORS_OPTION] = { "--sectors", NULL, true }
+};
 
 /* The part of an argument after the option's own text: NULL where the argument
  * is another option. "--page=3" leaves "=3", "-oFILE" leaves "FILE". */
@@ -22,34 +25,42 @@ static const char *rest_after(const struct option *option, const char *argument)
     return NULL;
 }
 
-static enum status expect_no_value(const struct arguments *arguments,
+/* The option that an argument is; the end of the options where it is none. */
+static const struct option *find_option(const struct option *options,
+                                        const char *argument)
+{
+    while (options->word != NULL && rest_after(options, argument) == NULL)
+        options++;
+    return options;
+}
+
+static enum status expect_no_value(const char *command,
                                    const struct option *option,
                                    const char *rest)
 {
     if (*rest == '\0')
         return STATUS_DONE;
-    return say_misuse(arguments->command, "no value goes with option",
-                      option->word);
+    return say_misuse(command, "no value goes with option", option->word);
 }
 
 /* Stores an option's value; the next argument is taken where the option has
  * none attached to it. */
-static enum status take_option(struct arguments *arguments, size_t number,
-                               const struct option *option, const char *rest,
+static enum status take_option(const char *command, const struct option *option,
+                               const char *rest, const char **value,
                                const char **next)
 {
     if (!option->takes_value) {
-        arguments->option[number] = "";
-        return expect_no_value(arguments, option, rest);
+        *value = "";
+        return expect_no_value(command, option, rest);
     }
     if (*rest != '\0') {
-        arguments->option[number] = *rest == '=' ? rest + 1 : rest;
+        *value = *rest == '=' ? rest + 1 : rest;
         return STATUS_DONE;
     }
     if (*next == NULL)
-        return say_misuse(arguments->command, "a value is missing after option",
+        return say_misuse(command, "a value is missing after option",
                           option->word);
-    arguments->option[number] = *next;
+    *value = *next;
     *next = NULL;
     return STATUS_DONE;
 }
@@ -59,23 +70,54 @@ static enum status parse_one(struct arguments *arguments,
                              const struct option *options,
                              const char *argument, const char **next)
 {
-    const char *rest = rest_after(&moved_option, argument);
-    size_t i;
+    const struct option *own = find_option(options, argument);
+    const struct option *of_kind = find_option(kind_options, argument);
 
     if (strcmp(argument, "--help") == 0 || strcmp(argument, "-h") == 0) {
         arguments->wants_help = true;
         return STATUS_DONE;
     }
-    if (rest != NULL) {
-        arguments->arrangement = TANDOS_MOVED;
-        return expect_no_value(arguments, &moved_option, rest);
-    }
-    for (i = 0; options[i].word != NULL; i++) {
-        rest = rest_after(&options[i], argument);
-        if (rest != NULL)
-            return take_option(arguments, i, &options[i], rest, next);
-    }
+    if (own->word != NULL)
+        return take_option(arguments->command, own, rest_after(own, argument),
+                           &arguments->option[own - options], next);
+    if (of_kind->word != NULL)
+        return take_option(arguments->command, of_kind,
+                           rest_after(of_kind, argument),
+                           &arguments->kind_option[of_kind - kind_options],
+                           next);
     return say_misuse(arguments->command, "there is no option", argument);
+}
+
+static enum status parse_sectors(const struct arguments *arguments,
+                                 uint32_t *sectors)
+{
+    const char *text = arguments->kind_option[SECTORS_OPTION];
+
+    *sectors = TANDOS_TEN;
+    if (text == NULL)
+        return STATUS_DONE;
+    if (!parse_number(text, sectors) ||
+        (*sectors != TANDOS_NINE && *sectors != TANDOS_TEN))
+        return say_misuse(arguments->command, "--sectors is 9 or 10, not",
+                          text);
+    return STATUS_DONE;
+}
+
+static enum status parse_kind(struct arguments *arguments)
+{
+    bool is_moved = arguments->kind_option[MOVED_OPTION] != NULL;
+    uint32_t sectors;
+
+    if (parse_sectors(arguments, &sectors) != STATUS_DONE)
+        return STATUS_FAILED;
+    if (is_moved && sectors == TANDOS_NINE)
+        return say_misuse(arguments->command,
+                          "there are no moved discs of 9 sectors a track: "
+                          "leave out '--moved' or '--sectors 9'", NULL);
+    arguments->kind = sectors == TANDOS_NINE ? NINE_PLAIN
+                      : is_moved             ? TEN_MOVED
+                                             : TEN_PLAIN;
+    return STATUS_DONE;
 }
 
 enum status parse_arguments(struct arguments *arguments,
@@ -101,7 +143,7 @@ enum status parse_arguments(struct arguments *arguments,
                 i++;
         }
     }
-    return STATUS_DONE;
+    return parse_kind(arguments);
 }
 
 enum status parse_option_number(const struct arguments *arguments,

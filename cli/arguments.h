@@ -6,10 +6,15 @@
 #include <stddef.h>
 #include <stdint.h>
 
+#include "kind.h"
 #include "status.h"
 
-/* Beside --help and --moved, which are parsed for every subcommand. */
+/* Beside --help and the options below, which are parsed for every
+ * subcommand. */
 #define MAX_OPTIONS 3
+
+/* The options that state the kind of disc: --moved and --sectors. */
+enum { MOVED_OPTION, SECTORS_OPTION, KIND_OPTIONS };
 
 struct option {
     const char *word;   /* "--page"; NULL after the last one */
@@ -22,7 +27,8 @@ struct arguments {
     /* For each option of the subcommand, in its order: NULL where it is not
      * given, else its value, "" for an option without one. */
     const char *option[MAX_OPTIONS];
-    uint32_t arrangement; /* TANDOS_PLAIN, or with --moved TANDOS_MOVED */
+    const char *kind_option[KIND_OPTIONS]; /* likewise */
+    enum kind kind;                        /* as these state it */
     char **operand;
     size_t operands;
     bool wants_help;

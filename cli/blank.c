@@ -12,9 +12,9 @@ enum { FORCE };
 
 /* A number of tracks that no disc has gives a length that no image has, so
  * that the library refuses it. */
-static size_t length_of(uint32_t tracks)
+static size_t length_of(uint32_t tracks, uint32_t sectors)
 {
-    return tracks <= TANDOS_MAX_TRACKS ? TANDOS_IMAGE_SIZE(tracks)
+    return tracks <= TANDOS_MAX_TRACKS ? TANDOS_IMAGE_SIZE(tracks, sectors)
                                        : IMAGE_BUFFER_SIZE;
 }
 
@@ -45,8 +45,8 @@ static enum status run(const struct arguments *arguments)
         return say_misuse(arguments->command,
                           "a number of tracks is wanted, not",
                           arguments->operand[1]);
-    image.length = length_of(tracks);
-    image.arrangement = arguments->arrangement;
+    state_kind(&image, arguments->kind);
+    image.length = length_of(tracks, image.sectors);
     number = tandos_blank(TANDOS_ON(image), TANDOS_TEXT(name));
     if (number != TANDOS_DONE)
         return say_refused(path, number, "");
@@ -55,10 +55,11 @@ static enum status run(const struct arguments *arguments)
 }
 
 const struct command blank_command = {
-    "blank", "IMAGE TRACKS NAME [--force] [--moved]", "Make a blank disc.",
+    "blank", "IMAGE TRACKS NAME [--force] " KIND_SYNOPSIS, "Make a blank disc.",
     "TRACKS is 1 to 80; NAME is 1 to 9 of A-Z and 0-9.\n"
     "A file that stands already is kept, with exit status 2.\n\n"
-    "  --force   replace it\n"
-    "  --moved   make the image in the moved arrangement\n",
+    "  --force       replace it\n"
+    "  --moved       make the image in the moved arrangement\n"
+    "  --sectors 9   make it with 9 sectors a track instead of 10\n",
     3, 3, { { "--force", NULL, false } }, run
 };

@@ -26,13 +26,19 @@ enum {
 /* No chain: the value of met_by for a sector that none has met. */
 #define NO_CHAIN MAX_CHAINS
 
-struct pair pair_of(unsigned number)
+struct pair pair_of(const struct chains *chains, unsigned number)
 {
     struct pair pair;
 
-    pair.track = number / TANDOS_SECTORS_PER_TRACK;
-    pair.sector = number % TANDOS_SECTORS_PER_TRACK + 1;
+    pair.track = number / chains->sectors_per_track;
+    pair.sector = number % chains->sectors_per_track + 1;
     return pair;
+}
+
+/* Of a pair that is on the disc. */
+static unsigned number_of(const struct chains *chains, struct pair pair)
+{
+    return pair.track * chains->sectors_per_track + pair.sector - 1;
 }
 
 /* Sector, then track: so pairs stand in the system sector and in entries. */
@@ -59,7 +65,7 @@ static struct pair link_of(const struct chains *chains, unsigned number)
 static bool is_on_disc(const struct chains *chains, struct pair pair)
 {
     return pair.track < chains->tracks && pair.sector >= 1 &&
-           pair.sector <= TANDOS_SECTORS_PER_TRACK;
+           pair.sector <= chains->sectors_per_track;
 }
 
 static void meet(struct chains *chains, unsigned number, unsigned chain,
@@ -102,7 +108,7 @@ static void walk(struct chains *chains, unsigned number)
             leave_disc(chains, chain);
             return;
         }
-        sector = next.track * TANDOS_SECTORS_PER_TRACK + next.sector - 1;
+        sector = number_of(chains, next);
         if (sector == 0 || chains->met_by[sector] == number) {
             chain->end = CHAIN_RETURNS;
             meet(chains, sector, number, chain->length + 1);
@@ -184,10 +190,11 @@ static void find_sectors(struct chains *chains)
 {
     unsigned i;
 
-    chains->tracks = (unsigned)(chains->image->length / TANDOS_TRACK_SIZE);
-    chains->sectors = chains->tracks * TANDOS_SECTORS_PER_TRACK;
+    chains->tracks = track_count(chains->image);
+    chains->sectors_per_track = chains->image->sectors;
+    chains->sectors = chains->tracks * chains->sectors_per_track;
     for (i = 0; i < chains->sectors; i++) {
-        struct pair pair = pair_of(i);
+        struct pair pair = pair_of(chains, i);
 
         chains->sector[i].bytes =
             chains->image->bytes +

@@ -13,7 +13,7 @@
 #include "image.h"
 #include "tandos.h"
 
-#define MAX_SECTORS (TANDOS_MAX_TRACKS * TANDOS_SECTORS_PER_TRACK)
+#define MAX_SECTORS (TANDOS_MAX_TRACKS * TANDOS_TEN)
 #define SLOTS_PER_SECTOR 15
 
 /* The numbers of the chains. The system sector counts as one. */
@@ -61,7 +61,8 @@ struct sector {
 struct chains {
     const struct image *image;
     const uint8_t *disc_name; /* nine bytes */
-    unsigned tracks, sectors;
+    unsigned tracks, sectors_per_track;
+    unsigned sectors;    /* of all tracks */
     unsigned count;      /* of chains */
     unsigned said_used;  /* by the used count */
     unsigned said_files; /* the sum of the entries' lengths */
@@ -79,7 +80,7 @@ struct chains {
 void follow_chains(struct chains *chains, const struct image *image);
 
 /* The place of a sector by its number. */
-struct pair pair_of(unsigned number);
+struct pair pair_of(const struct chains *chains, unsigned number);
 
 bool is_lost(const struct sector *sector);
 bool is_met_again(const struct sector *sector);

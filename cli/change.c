@@ -10,7 +10,7 @@ static struct image image;
 static enum status load(const struct arguments *arguments)
 {
     return load_image_for_change(&image, arguments->operand[0],
-                                 arguments->arrangement, arguments->command);
+                                 arguments->kind, arguments->command);
 }
 
 static enum status run_delete(const struct arguments *arguments)
@@ -50,23 +50,24 @@ static enum status run_protect(const struct arguments *arguments)
 }
 
 const struct command delete_command = {
-    "delete", "IMAGE NAME [--moved]", "Delete a file of a disc.",
+    "delete", "IMAGE NAME " KIND_SYNOPSIS, "Delete a file of a disc.",
     "A protected file is not deleted: lift its protection first.\n\n"
-    MOVED_HELP,
+    KIND_HELP,
     2, 2, { { 0 } }, run_delete
 };
 
 const struct command rename_command = {
-    "rename", "IMAGE OLD NEW [--moved]", "Give a file of a disc another name.",
+    "rename", "IMAGE OLD NEW " KIND_SYNOPSIS,
+    "Give a file of a disc another name.",
     "A protected file is not renamed: lift its protection first.\n\n"
-    MOVED_HELP,
+    KIND_HELP,
     3, 3, { { 0 } }, run_rename
 };
 
 const struct command protect_command = {
-    "protect", "IMAGE NAME on|off [--moved]",
+    "protect", "IMAGE NAME on|off " KIND_SYNOPSIS,
     "Protect a file of a disc, or lift its protection.",
     "A protected file can be neither deleted nor renamed.\n\n"
-    MOVED_HELP,
+    KIND_HELP,
     3, 3, { { 0 } }, run_protect
 };

@@ -2,29 +2,29 @@
 #include <stdio.h>
 #include <string.h>
 
-#include "arrangement.h"
 #include "commands.h"
 #include "image.h"
+#include "kind.h"
 #include "message.h"
 
-static enum status check_one(const char *path, uint32_t arrangement)
+static enum status check_one(const char *path, enum kind kind)
 {
     static struct image image;
     tandos_checked checked;
 
-    if (load_image(&image, path, arrangement) != STATUS_DONE)
+    if (load_image(&image, path, kind) != STATUS_DONE)
         return STATUS_FAILED;
     checked = tandos_check(TANDOS_ON(image));
     if (checked.number != TANDOS_DONE) {
         /* On standard output, like the other lines: one for each image. */
-        printf("%s: refused with %lu, %s. %s\n", input_name(path),
+        printf("%s: refused with %lu, %s. %s%s\n", input_name(path),
                (unsigned long)checked.number,
                tandos_refusal_name(checked.number),
-               tandos_refusal_text(checked.number));
+               tandos_refusal_text(checked.number), kind_hint(&image));
         return STATUS_REFUSED;
     }
     printf("%s: %s%s\n", input_name(path), tandos_rule_text(checked.rule),
-           arrangement_hint(&image));
+           kind_hint(&image));
     return checked.rule == 0 ? STATUS_DONE : STATUS_REFUSED;
 }
 
@@ -35,7 +35,7 @@ static enum status run(const struct arguments *arguments)
 
     for (i = 0; i < arguments->operands; i++) {
         enum status status =
-            check_one(arguments->operand[i], arguments->arrangement);
+            check_one(arguments->operand[i], arguments->kind);
 
         if (status > worst)
             worst = status;
@@ -44,10 +44,11 @@ static enum status run(const struct arguments *arguments)
 }
 
 const struct command check_command = {
-    "check", "IMAGE.. [--moved]", "Check that discs are sound.",
+    "check", "IMAGE.. " KIND_SYNOPSIS, "Check that discs are sound.",
     "Prints one line for each image: that it is sound, or the lowest-numbered\n"
     "rule that is broken. Exit status 0 only if all are sound, 1 if one is\n"
     "not, 2 if one could not be read.\n\n"
-    "  --moved   the images are in the moved arrangement\n",
+    "  --moved       the images are in the moved arrangement\n"
+    "  --sectors 9   the images have 9 sectors a track instead of 10\n",
     1, ANY_NUMBER, { { 0 } }, run
 };

@@ -9,8 +9,12 @@
 
 #define ANY_NUMBER ((size_t)-1)
 
-/* The line on --moved, for details whose other options are as short. */
-#define MOVED_HELP "  --moved   the image is in the moved arrangement\n"
+/* The options that state the kind of disc: at the end of a synopsis, and their
+ * lines for details whose other options are as short. */
+#define KIND_SYNOPSIS "[--moved | --sectors 9]"
+#define KIND_HELP \
+    "  --moved       the image is in the moved arrangement\n" \
+    "  --sectors 9   the image has 9 sectors a track instead of 10\n"
 
 struct command {
     const char *name;

@@ -5,7 +5,6 @@
 #include <string.h>
 #include <unistd.h>
 
-#include "arrangement.h"
 #include "bytes.h"
 #include "message.h"
 #include "replace.h"
@@ -18,15 +17,14 @@ static enum status read_image(struct image *image, int file)
     return STATUS_DONE;
 }
 
-enum status load_image(struct image *image, const char *path,
-                       uint32_t arrangement)
+enum status load_image(struct image *image, const char *path, enum kind kind)
 {
     bool is_standard = strcmp(path, "-") == 0;
     int file = is_standard ? STDIN_FILENO : open(path, O_RDONLY);
     enum status status;
 
     image->path = path;
-    image->arrangement = arrangement;
+    state_kind(image, kind);
     if (file < 0)
         return say_failed(path, "cannot open");
     status = read_image(image, file);
@@ -72,13 +70,13 @@ static int open_locked(const char *path)
 }
 
 enum status load_image_for_change(struct image *image, const char *path,
-                                  uint32_t arrangement, const char *command)
+                                  enum kind kind, const char *command)
 {
     struct stat named;
     int file;
 
     image->path = path;
-    image->arrangement = arrangement;
+    state_kind(image, kind);
     if (strcmp(path, "-") == 0)
         return say_misuse(command, "an image that is changed is a file, not",
                           path);
@@ -95,6 +93,11 @@ enum status store_image(const struct image *image, uint32_t number)
     if (number != TANDOS_DONE)
         return say_image_refused(image, number);
     return replace_file(image->path, image->bytes, image->length, true);
+}
+
+unsigned track_count(const struct image *image)
+{
+    return (unsigned)(image->length / TANDOS_IMAGE_SIZE(1, image->sectors));
 }
 
 size_t sector_start(const struct image *image, unsigned track, unsigned sector)

@@ -7,25 +7,27 @@
 #include <stdint.h>
 #include <sys/stat.h>
 
+#include "kind.h"
 #include "status.h"
 #include "tandos.h"
 
 /* One byte more than any image has: enough for the library to see that a file
  * is too long. */
-#define IMAGE_BUFFER_SIZE (TANDOS_IMAGE_SIZE(TANDOS_MAX_TRACKS) + 1)
+#define IMAGE_BUFFER_SIZE (TANDOS_IMAGE_MAX + 1)
 
 struct image {
     const char *path;
     struct stat file; /* which file it was read from */
-    /* Lent to a call by TANDOS_ON. */
+    enum kind kind;   /* as the command line states it */
+    /* Lent to a call by TANDOS_ON; the last two are those of the kind. */
     uint8_t bytes[IMAGE_BUFFER_SIZE];
     size_t length;
-    uint32_t arrangement; /* as the command line states it */
+    uint32_t sectors;
+    uint32_t arrangement;
 };
 
 /* For the commands that only read: "-" is standard input. */
-enum status load_image(struct image *image, const char *path,
-                       uint32_t arrangement);
+enum status load_image(struct image *image, const char *path, enum kind kind);
 
 /*
  * For the commands that change the image. The file is locked until the process
@@ -33,11 +35,14 @@ enum status load_image(struct image *image, const char *path,
  * first one wrote. Without that the first one's change would be lost.
  */
 enum status load_image_for_change(struct image *image, const char *path,
-                                  uint32_t arrangement, const char *command);
+                                  enum kind kind, const char *command);
 
 /* Replaces the image's file if `number` is TANDOS_DONE; otherwise says what
  * was refused and writes nothing. */
 enum status store_image(const struct image *image, uint32_t number);
+
+/* The image is of a right size. */
+unsigned track_count(const struct image *image);
 
 /* Where a sector that is on the disc begins in the image, its link first. The
  * image is of a right size. */

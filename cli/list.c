@@ -2,9 +2,9 @@
 #include <stdio.h>
 #include <unistd.h>
 
-#include "arrangement.h"
 #include "commands.h"
 #include "image.h"
+#include "kind.h"
 #include "message.h"
 #include "text.h"
 
@@ -14,7 +14,7 @@ enum { TABLE, JSON };
 struct disc_record {
     const uint8_t *name;
     unsigned tracks, free_count, used_count, files;
-    bool is_moved;
+    const struct kind_marks *marks;
 };
 
 struct file_record {
@@ -39,12 +39,12 @@ static struct disc_record disc_record(const struct image *image,
     struct disc_record disc;
 
     disc.name = records + 1;
-    disc.tracks = (unsigned)(image->length / TANDOS_TRACK_SIZE);
+    disc.tracks = track_count(image);
     disc.free_count = word_at(records + 10);
     disc.used_count = word_at(records + 12);
     disc.files = (unsigned)((length - TANDOS_LIST_SIZE(0)) /
                             TANDOS_FILE_RECORD_SIZE);
-    disc.is_moved = image->arrangement == TANDOS_MOVED;
+    disc.marks = marks_of(image);
     return disc;
 }
 
@@ -55,9 +55,8 @@ static void print_table(struct disc_record disc, const uint8_t *record)
 
     printf("Disc %s: %u track%s%s, %u sector%s free, %u in %u file%s\n",
            disc_name_text(disc.name, text), disc.tracks, plural(disc.tracks),
-           disc.is_moved ? ", moved" : "", disc.free_count,
-           plural(disc.free_count), disc.used_count, disc.files,
-           plural(disc.files));
+           disc.marks->heading, disc.free_count, plural(disc.free_count),
+           disc.used_count, disc.files, plural(disc.files));
     if (disc.files > 0)
         puts("\nNAME        SECTORS");
     for (i = 0; i < disc.files; i++, record += TANDOS_FILE_RECORD_SIZE) {
@@ -75,7 +74,7 @@ static void print_rows(struct disc_record disc, const uint8_t *record)
 
     printf("disc\t%s\t%u\t%u\t%u%s\n", disc_name_text(disc.name, text),
            disc.tracks, disc.free_count, disc.used_count,
-           disc.is_moved ? "\tmoved" : "");
+           disc.marks->field);
     for (i = 0; i < disc.files; i++, record += TANDOS_FILE_RECORD_SIZE) {
         struct file_record file = file_record(record);
 
@@ -94,7 +93,7 @@ static void print_json(struct disc_record disc, const uint8_t *record)
                       unpadded_length(disc.name, TANDOS_NAME_SIZE));
     printf(", \"tracks\": %u, \"free\": %u, \"used\": %u%s},\n \"files\": [",
            disc.tracks, disc.free_count, disc.used_count,
-           disc.is_moved ? ", \"arrangement\": \"moved\"" : "");
+           disc.marks->json);
     for (i = 0; i < disc.files; i++, record += TANDOS_FILE_RECORD_SIZE) {
         struct file_record file = file_record(record);
 
@@ -117,7 +116,7 @@ static enum status run(const struct arguments *arguments)
     if (arguments->option[TABLE] && arguments->option[JSON])
         return say_misuse(arguments->command, "--table and --json exclude "
                           "each other", NULL);
-    if (load_image(&image, arguments->operand[0], arguments->arrangement) !=
+    if (load_image(&image, arguments->operand[0], arguments->kind) !=
         STATUS_DONE)
         return STATUS_FAILED;
     listed = tandos_list(TANDOS_ON(image), records, sizeof records);
@@ -134,13 +133,15 @@ static enum status run(const struct arguments *arguments)
 }
 
 const struct command list_command = {
-    "list", "IMAGE [--table | --json] [--moved]", "List the files of a disc.",
+    "list", "IMAGE [--table | --json] " KIND_SYNOPSIS,
+    "List the files of a disc.",
     "On a terminal a table; otherwise rows of fields parted by tabs:\n"
-    "  disc, name, tracks, free sectors, sectors in files, 'moved' if it is\n"
+    "  disc, name, tracks, free sectors, sectors in files; then 'moved' if it\n"
+    "      is, 'nine' if it has 9 sectors a track\n"
     "  file, name, sectors, 'protected' or '-'\n"
     "A byte of the disc's name that cannot be printed is shown as \\xHH.\n\n"
-    "  --table   a table in any case\n"
-    "  --json    JSON; a byte of a name is the character of its number\n"
-    MOVED_HELP,
+    "  --table       a table in any case\n"
+    "  --json        JSON; a byte of a name is the character of its number\n"
+    KIND_HELP,
     1, 1, { { "--table", NULL, false }, { "--json", NULL, false } }, run
 };

@@ -5,9 +5,9 @@
 #include <string.h>
 #include <unistd.h>
 
-#include "arrangement.h"
 #include "commands.h"
 #include "image.h"
+#include "kind.h"
 #include "message.h"
 #include "output.h"
 
@@ -62,7 +62,7 @@ static enum status write_svg(const char *path, const struct image *image,
         status = write_output(path, image, (const uint8_t *)text, length);
     free(text);
     if (status == STATUS_DONE && rule != 0)
-        status = say_broken(image->path, rule, arrangement_hint(image));
+        status = say_broken(image->path, rule, kind_hint(image));
     return status;
 }
 
@@ -75,7 +75,7 @@ static enum status run(const struct arguments *arguments)
     enum status status = STATUS_DONE;
 
     if (parse_colour(arguments, &is_coloured) != STATUS_DONE ||
-        load_image(&image, arguments->operand[0], arguments->arrangement) !=
+        load_image(&image, arguments->operand[0], arguments->kind) !=
             STATUS_DONE)
         return STATUS_FAILED;
     checked = tandos_check(TANDOS_ON(image));
@@ -93,7 +93,7 @@ static enum status run(const struct arguments *arguments)
 }
 
 const struct command map_command = {
-    "map", "IMAGE [--color=WHEN] [--svg FILE] [--moved]",
+    "map", "IMAGE [--color=WHEN] [--svg FILE] " KIND_SYNOPSIS,
     "Show which file or chain each sector belongs to.",
     "Prints a row for each track, and a legend. Of an unsound image also the\n"
     "broken rule and the sectors that are met more than once, lost, or linked\n"
@@ -102,6 +102,7 @@ const struct command map_command = {
     "                 NO_COLOR is set\n"
     "  --svg FILE     write a picture to FILE instead, with each sector's\n"
     "                 order in its chain\n"
-    "  --moved        the image is in the moved arrangement\n",
+    "  --moved        the image is in the moved arrangement\n"
+    "  --sectors 9    the image has 9 sectors a track instead of 10\n",
     1, 1, { { "--color", NULL, true }, { "--svg", NULL, true } }, run
 };

@@ -9,7 +9,7 @@
 #include "chains.h"
 
 /* `rule` is the broken rule that the check has found, or 0; both maps tell of
- * the arrangement, and of the other one where the disc is sound in that. */
+ * the kind stated, and of another one where the disc is sound as that. */
 void print_map(FILE *to, const struct chains *chains, uint32_t rule,
                bool is_coloured);
 

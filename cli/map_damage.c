@@ -29,7 +29,7 @@ static unsigned print_met_again(FILE *to, const struct chains *chains)
         if (!is_met_again(sector))
             continue;
         fputs(found++ == 0 ? "\nMet more than once:\n  " : "  ", to);
-        print_place(to, pair_of(i));
+        print_place(to, pair_of(chains, i));
         fputs(": ", to);
         print_meeting(to, chains, sector->first);
         fputs(", ", to);
@@ -51,7 +51,7 @@ static unsigned print_lost(FILE *to, const struct chains *chains)
         if (found == 0)
             fputs("\nLost, met by no chain:", to);
         fputs(found++ % PLACES_PER_LINE == 0 ? "\n  " : " ", to);
-        print_place(to, pair_of(i));
+        print_place(to, pair_of(chains, i));
     }
     if (found > 0)
         putc('\n', to);

@@ -1,7 +1,7 @@
 /* The map as a picture, SVG 1.1. */
 #include <string.h>
 
-#include "arrangement.h"
+#include "kind.h"
 #include "map.h"
 #include "text.h"
 
@@ -11,7 +11,7 @@ enum {
     CELL_HEIGHT = 30,
     MAP_LEFT = 50,
     MAP_TOP = 120,
-    LEGEND_LEFT = MAP_LEFT + TANDOS_SECTORS_PER_TRACK * CELL_WIDTH + 30,
+    LEGEND_GAP = 30,
     LEGEND_LINE = 20,
     LEGEND_WIDTH = 460,
     LEAST_LEGEND_LINES = 15,
@@ -37,6 +37,11 @@ static const char *fill_of(unsigned chain)
     }
 }
 
+static unsigned legend_left(const struct chains *chains)
+{
+    return MAP_LEFT + chains->sectors_per_track * CELL_WIDTH + LEGEND_GAP;
+}
+
 static unsigned legend_lines(const struct chains *chains)
 {
     unsigned lines = chains->tracks * CELL_HEIGHT / LEGEND_LINE;
@@ -53,7 +58,7 @@ static unsigned legend_columns(const struct chains *chains)
 
 static unsigned picture_width(const struct chains *chains)
 {
-    return LEGEND_LEFT + legend_columns(chains) * LEGEND_WIDTH;
+    return legend_left(chains) + legend_columns(chains) * LEGEND_WIDTH;
 }
 
 static unsigned picture_height(const struct chains *chains)
@@ -81,18 +86,22 @@ static void print_head(FILE *to, const struct chains *chains, uint32_t rule)
             picture_width(chains), picture_height(chains), MARGIN);
     print_xml_text(to, text);
     fprintf(to, ": %u track%s%s</text>\n<text x=\"%d\" y=\"52\"%s>",
-            chains->tracks, plural(chains->tracks), moved_mark(chains->image),
-            MARGIN, rule == 0 ? "" : " fill=\"#c00000\"");
+            chains->tracks, plural(chains->tracks),
+            marks_of(chains->image)->heading, MARGIN,
+            rule == 0 ? "" : " fill=\"#c00000\"");
     print_xml_text(to, tandos_rule_text(rule));
     fputs("</text>\n", to);
 }
 
 /* Above the legend, where there is room for it. */
-static void print_hint(FILE *to, const char *hint)
+static void print_hint(FILE *to, const struct chains *chains)
 {
+    const char *hint = kind_hint(chains->image);
+
     if (*hint == '\0')
         return;
-    fprintf(to, "<text x=\"%d\" y=\"28\" fill=\"#c00000\">", LEGEND_LEFT);
+    fprintf(to, "<text x=\"%u\" y=\"28\" fill=\"#c00000\">",
+            legend_left(chains));
     print_xml_text(to, hint + strlen(" "));
     fputs("</text>\n", to);
 }
@@ -102,7 +111,7 @@ static void print_rulers(FILE *to, const struct chains *chains)
     unsigned i;
 
     fputs("<g text-anchor=\"middle\">\n", to);
-    for (i = 0; i < TANDOS_SECTORS_PER_TRACK; i++)
+    for (i = 0; i < chains->sectors_per_track; i++)
         fprintf(to, "<text x=\"%u\" y=\"%d\">%u</text>\n",
                 MAP_LEFT + i * CELL_WIDTH + CELL_WIDTH / 2, MAP_TOP - 8, i + 1);
     for (i = 0; i < chains->tracks; i++)
@@ -116,7 +125,7 @@ static void print_cell_title(FILE *to, const struct chains *chains,
                              unsigned number)
 {
     const struct sector *sector = &chains->sector[number];
-    struct pair pair = pair_of(number);
+    struct pair pair = pair_of(chains, number);
     char text[CHAIN_TEXT_SIZE];
 
     fprintf(to, "<title>%u/%u: ", pair.track, pair.sector);
@@ -154,7 +163,7 @@ static void print_cell_texts(FILE *to, const struct sector *sector, unsigned x,
 static void print_cell(FILE *to, const struct chains *chains, unsigned number)
 {
     const struct sector *sector = &chains->sector[number];
-    struct pair pair = pair_of(number);
+    struct pair pair = pair_of(chains, number);
     unsigned x = MAP_LEFT + (pair.sector - 1) * CELL_WIDTH;
     unsigned y = MAP_TOP + pair.track * CELL_HEIGHT;
     bool is_damaged = is_lost(sector) || is_met_again(sector) ||
@@ -175,7 +184,7 @@ static void print_legend_line(FILE *to, const struct chains *chains,
                               unsigned number)
 {
     unsigned lines = legend_lines(chains);
-    unsigned x = LEGEND_LEFT + number / lines * LEGEND_WIDTH;
+    unsigned x = legend_left(chains) + number / lines * LEGEND_WIDTH;
     unsigned y = MAP_TOP + number % lines * LEGEND_LINE;
     char text[CHAIN_TEXT_SIZE];
 
@@ -203,7 +212,7 @@ void print_map_svg(FILE *to, const struct chains *chains, uint32_t rule)
     unsigned i;
 
     print_head(to, chains, rule);
-    print_hint(to, arrangement_hint(chains->image));
+    print_hint(to, chains);
     print_key(to, rule);
     print_rulers(to, chains);
     for (i = 0; i < chains->sectors; i++)

@@ -2,7 +2,7 @@
 #include <stdlib.h>
 #include <string.h>
 
-#include "arrangement.h"
+#include "kind.h"
 #include "map.h"
 #include "text.h"
 
@@ -56,13 +56,16 @@ static const char *mark_of(const struct sector *sector)
     return sector->links_off ? ">" : "";
 }
 
-static void print_track(FILE *to, const struct sector *sectors,
+static void print_track(FILE *to, const struct chains *chains, unsigned track,
                         bool is_coloured)
 {
+    const struct sector *sectors =
+        &chains->sector[track * chains->sectors_per_track];
     const char *mark = "";
     unsigned i;
 
-    for (i = 0; i < TANDOS_SECTORS_PER_TRACK; i++) {
+    fprintf(to, "%5u", track);
+    for (i = 0; i < chains->sectors_per_track; i++) {
         fputs(*mark == '\0' ? " " : mark, to);
         print_cell(to, &sectors[i], is_coloured);
         mark = mark_of(&sectors[i]);
@@ -76,14 +79,11 @@ static void print_tracks(FILE *to, const struct chains *chains,
     unsigned track, i;
 
     fputs("track", to);
-    for (i = 1; i <= TANDOS_SECTORS_PER_TRACK; i++)
+    for (i = 1; i <= chains->sectors_per_track; i++)
         fprintf(to, " %5u", i);
     putc('\n', to);
-    for (track = 0; track < chains->tracks; track++) {
-        fprintf(to, "%5u", track);
-        print_track(to, &chains->sector[track * TANDOS_SECTORS_PER_TRACK],
-                    is_coloured);
-    }
+    for (track = 0; track < chains->tracks; track++)
+        print_track(to, chains, track, is_coloured);
 }
 
 static void print_plain(FILE *to, const char *text)
@@ -140,8 +140,8 @@ void print_map(FILE *to, const struct chains *chains, uint32_t rule,
 
     fprintf(to, "Disc %s: %u track%s%s. %s%s\n\n",
             disc_name_text(chains->disc_name, text), chains->tracks,
-            plural(chains->tracks), moved_mark(chains->image),
-            tandos_rule_text(rule), arrangement_hint(chains->image));
+            plural(chains->tracks), marks_of(chains->image)->heading,
+            tandos_rule_text(rule), kind_hint(chains->image));
     print_tracks(to, chains, is_coloured);
     print_legend(to, chains, is_coloured);
     if (rule == 0)

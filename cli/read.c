@@ -1,9 +1,9 @@
 /* tandos read: a file's sheet. */
 #include <stdio.h>
 
-#include "arrangement.h"
 #include "commands.h"
 #include "image.h"
+#include "kind.h"
 #include "message.h"
 #include "output.h"
 
@@ -28,7 +28,7 @@ static enum status run(const struct arguments *arguments)
     if (arguments->option[OUTPUT] && arguments->option[INFO])
         return say_misuse(arguments->command, "--output and --info exclude "
                           "each other", NULL);
-    if (load_image(&image, arguments->operand[0], arguments->arrangement) !=
+    if (load_image(&image, arguments->operand[0], arguments->kind) !=
         STATUS_DONE)
         return STATUS_FAILED;
     reading = tandos_read(TANDOS_ON(image), TANDOS_TEXT(name), sheet,
@@ -44,11 +44,13 @@ static enum status run(const struct arguments *arguments)
 }
 
 const struct command read_command = {
-    "read", "IMAGE NAME [-o FILE | --info] [--moved]", "Read a file of a disc.",
+    "read", "IMAGE NAME [-o FILE | --info] " KIND_SYNOPSIS,
+    "Read a file of a disc.",
     "Writes the file's bytes to standard output.\n\n"
     "  -o, --output FILE   write them to FILE instead\n"
     "  --info              print page, start, end, transfer and length of the\n"
     "                      load module instead, each after its name and a tab\n"
-    "  --moved             the image is in the moved arrangement\n",
+    "  --moved             the image is in the moved arrangement\n"
+    "  --sectors 9         the image has 9 sectors a track instead of 10\n",
     2, 2, { { "--output", "-o", true }, { "--info", NULL, false } }, run
 };

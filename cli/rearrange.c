@@ -1,38 +1,48 @@
 /* tandos rearrange: a disc in the other arrangement. */
 #include <string.h>
 
-#include "arrangement.h"
 #include "commands.h"
 #include "image.h"
+#include "kind.h"
 #include "message.h"
 #include "output.h"
 #include "replace.h"
 
 enum { TO, OUTPUT };
 
-static enum status parse_to(const struct arguments *arguments, uint32_t *to)
+static enum kind other_arrangement(enum kind kind)
+{
+    return kind == TEN_PLAIN ? TEN_MOVED : TEN_PLAIN;
+}
+
+static enum status parse_to(const struct arguments *arguments, enum kind *to)
 {
     const char *word = arguments->option[TO];
 
-    *to = TANDOS_MOVED;
+    *to = TEN_MOVED;
     if (word == NULL)
         return say_misuse(arguments->command, "an option is missing: give",
                           "--to moved|plain");
     if (strcmp(word, "plain") == 0)
-        *to = TANDOS_PLAIN;
+        *to = TEN_PLAIN;
     else if (strcmp(word, "moved") != 0)
         return say_misuse(arguments->command, "--to is moved or plain, not",
                           word);
     return STATUS_DONE;
 }
 
-static enum status parse(const struct arguments *arguments, uint32_t *to)
+static enum status parse(const struct arguments *arguments, enum kind *to)
 {
     /* With both it would be unclear which arrangement the image is in. */
-    if (arguments->arrangement != TANDOS_PLAIN)
+    if (arguments->kind == TEN_MOVED)
         return say_misuse(arguments->command,
                           "--to states both arrangements: leave out",
                           "--moved");
+    if (arguments->kind == NINE_PLAIN)
+        return say_misuse(arguments->command,
+                          "discs of 9 sectors a track have one arrangement "
+                          "alone: use the image as it is, or leave out",
+                          "--sectors 9");
     if (arguments->option[OUTPUT] == NULL)
         return say_misuse(arguments->command, "an option is missing: give",
                           "-o FILE");
@@ -48,32 +58,43 @@ static bool is_same_file(const char *path, const char *other)
            file.st_dev == other_file.st_dev && file.st_ino == other_file.st_ino;
 }
 
+/* Not kind_hint: stated as what it is, the disc is not to be rearranged. */
+static const char *already_hint(const struct image *image)
+{
+    switch (kind_meant(image)) {
+    case TEN_PLAIN:
+        return " In the plain arrangement the disc is sound: "
+               "it is plain already.";
+    case TEN_MOVED:
+        return " In the moved arrangement the disc is sound: "
+               "it is moved already.";
+    case NINE_PLAIN:
+        return " With 9 sectors a track the disc is sound: "
+               "it has one arrangement alone.";
+    default: return "";
+    }
+}
+
 /* Without this a disc that has been rearranged would be so once more. */
 static enum status expect_sound(const struct image *image)
 {
     tandos_checked checked = tandos_check(TANDOS_ON(*image));
-    const char *hint = "";
 
-    if (checked.number != TANDOS_DONE)
-        return say_image_refused(image, checked.number);
-    if (checked.rule == 0)
+    if (checked.number == TANDOS_DONE && checked.rule == 0)
         return STATUS_DONE;
-    if (is_misstated(image))
-        hint = image->arrangement == TANDOS_PLAIN
-                   ? " In the moved arrangement the disc is sound: "
-                     "it is moved already."
-                   : " In the plain arrangement the disc is sound: "
-                     "it is plain already.";
-    return say_refused(image->path, TANDOS_UNSOUND, hint);
+    return say_refused(image->path,
+                       checked.number != TANDOS_DONE ? checked.number
+                                                     : TANDOS_UNSOUND,
+                       already_hint(image));
 }
 
 static void copy_sectors(struct image *to, const struct image *from)
 {
-    unsigned tracks = (unsigned)(from->length / TANDOS_TRACK_SIZE);
+    unsigned tracks = track_count(from);
     unsigned track, sector;
 
     for (track = 0; track < tracks; track++)
-        for (sector = 1; sector <= TANDOS_SECTORS_PER_TRACK; sector++)
+        for (sector = 1; sector <= from->sectors; sector++)
             memcpy(to->bytes + sector_start(to, track, sector),
                    from->bytes + sector_start(from, track, sector),
                    TANDOS_SECTOR_SIZE);
@@ -90,7 +111,7 @@ static enum status rearrange(const struct image *image, const char *output,
     if (status != STATUS_DONE)
         return status;
     to.length = image->length;
-    to.arrangement = other_arrangement(image->arrangement);
+    state_kind(&to, other_arrangement(image->kind));
     copy_sectors(&to, image);
     if (is_in_place)
         return replace_file(output, to.bytes, to.length, true);
@@ -102,7 +123,7 @@ static enum status run(const struct arguments *arguments)
     static struct image image;
     const char *path = arguments->operand[0];
     const char *output = arguments->option[OUTPUT];
-    uint32_t to, from;
+    enum kind to, from;
     bool is_in_place;
     enum status status;
 
@@ -124,7 +145,8 @@ const struct command rearrange_command = {
     "Writes the disc to FILE with its sectors in their places of the other\n"
     "arrangement; no byte of a sector changes. An image that is not sound in\n"
     "the arrangement that it is read in is refused. IMAGE itself stays unless\n"
-    "FILE names it as well.\n\n"
+    "FILE names it as well. A disc of 9 sectors a track has one arrangement\n"
+    "alone.\n\n"
     "  --to moved          read a plain image, write a moved one\n"
     "  --to plain          read a moved image, write a plain one\n"
     "  -o, --output FILE   the file to write\n",

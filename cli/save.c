@@ -38,7 +38,7 @@ static enum status run(const struct arguments *arguments)
         read_file(arguments->operand[2], sheet, sizeof sheet, &length) !=
             STATUS_DONE ||
         load_image_for_change(&image, arguments->operand[0],
-                              arguments->arrangement,
+                              arguments->kind,
                               arguments->command) != STATUS_DONE)
         return STATUS_FAILED;
     return store_image(&image,
@@ -55,7 +55,8 @@ const struct command save_command = {
     "  --page N          0 to 7; 0 if not given\n"
     "  --start ADDR      address of the first byte; 0x2000 if not given\n"
     "  --transfer ADDR   transfer address; the start address if not given\n"
-    "  --moved           the image is in the moved arrangement\n\n"
+    "  --moved           the image is in the moved arrangement\n"
+    "  --sectors 9       the image has 9 sectors a track instead of 10\n\n"
     "Numbers are decimal, or hexadecimal after 0x or $ (which a shell wants\n"
     "in quotation marks: '$2000').\n",
     3, 3,

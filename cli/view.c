@@ -1,9 +1,9 @@
 /* tandos view: the bytes of a sector. */
 #include <stdio.h>
 
-#include "arrangement.h"
 #include "commands.h"
 #include "image.h"
+#include "kind.h"
 #include "message.h"
 #include "number.h"
 
@@ -39,12 +39,13 @@ static void print_row(const uint8_t *view, unsigned row)
 }
 
 /* An unsound image is shown too. But what is shown of an image that is sound
- * in the other arrangement is most likely another sector than was meant. */
-static void tell_of_arrangement(const struct image *image)
+ * as another kind is most likely another sector than was meant. */
+static void tell_of_kind(const struct image *image)
 {
-    if (is_misstated(image))
-        say_broken(image->path, tandos_check(TANDOS_ON(*image)).rule,
-                   arrangement_hint(image));
+    const char *hint = kind_hint(image);
+
+    if (*hint != '\0')
+        say_broken(image->path, tandos_check(TANDOS_ON(*image)).rule, hint);
 }
 
 static enum status run(const struct arguments *arguments)
@@ -58,24 +59,24 @@ static enum status run(const struct arguments *arguments)
         return say_misuse(arguments->command,
                           "TRACK/SECTOR is wanted, such as 0/7, not",
                           arguments->operand[1]);
-    if (load_image(&image, arguments->operand[0], arguments->arrangement) !=
+    if (load_image(&image, arguments->operand[0], arguments->kind) !=
         STATUS_DONE)
         return STATUS_FAILED;
     number = tandos_view_number(TANDOS_ON(image), track, sector);
     view = tandos_view(TANDOS_ON(image), track, sector);
     if (number != TANDOS_DONE || view == NULL)
         return say_image_refused(&image, number);
-    tell_of_arrangement(&image);
+    tell_of_kind(&image);
     for (row = 0; row < TANDOS_SECTOR_SIZE; row += ROW)
         print_row(view, row);
     return STATUS_DONE;
 }
 
 const struct command view_command = {
-    "view", "IMAGE TRACK/SECTOR [--moved]", "Show the bytes of a sector.",
+    "view", "IMAGE TRACK/SECTOR " KIND_SYNOPSIS, "Show the bytes of a sector.",
     "Prints the 254 bytes after the sector's link, in hexadecimal and ASCII.\n"
     "Each row begins with the number of its first byte in the sector.\n"
     "The image need not be sound.\n\n"
-    MOVED_HELP,
+    KIND_HELP,
     2, 2, { { 0 } }, run
 };

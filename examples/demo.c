@@ -13,8 +13,10 @@
 #define SHEET_LENGTH 300
 
 /* The bytes are the program's own; the library keeps nothing. */
-static uint8_t bytes[TANDOS_IMAGE_SIZE(TRACKS)];
-static const tandos_image disc = { bytes, sizeof bytes, TANDOS_PLAIN };
+static uint8_t bytes[TANDOS_IMAGE_SIZE(TRACKS, TANDOS_TEN)];
+static const tandos_image disc = {
+    bytes, sizeof bytes, TANDOS_TEN, TANDOS_PLAIN
+};
 static const char name[] = "THU.PCS";
 
 static void say_refused(const char *step, uint32_t number)

@@ -3,12 +3,15 @@
  * lists it, saves a correction, deletes last week's sheet, and says what was
  * done.
  *
- *     round [--moved] CORRECTION FILE LAST-WEEK IMAGE..
+ *     round [--sectors 9|10] [--moved] CORRECTION FILE LAST-WEEK IMAGE..
  *
  * CORRECTION is the name of the new file on the discs, FILE holds its bytes,
- * LAST-WEEK is the name of the file to be deleted. With --moved the images are
- * in the moved arrangement. A disc on which anything is refused stays as it is.
- * The exit status is 0 if every disc was done.
+ * LAST-WEEK is the name of the file to be deleted. The discs have 10 sectors a
+ * track, or the number given. With --moved the images are in the moved
+ * arrangement. Images of 9 never are: given both, the library refuses every
+ * disc with 1; leave out the option that does not hold. A disc on which
+ * anything is refused stays as it is. The exit status is 0 if every disc was
+ * done.
  */
 #include <stdbool.h>
 #include <stdio.h>
@@ -16,8 +19,6 @@
 #include <string.h>
 
 #include "tandos.h"
-
-#define LONGEST_IMAGE TANDOS_IMAGE_SIZE(TANDOS_MAX_TRACKS)
 
 struct task {
     const char *correction;
@@ -27,8 +28,8 @@ struct task {
 };
 
 /* One byte more than any image has, so that a file that is too long is seen. */
-static uint8_t bytes[LONGEST_IMAGE + 1];
-static tandos_image disc = { bytes, 0, TANDOS_PLAIN };
+static uint8_t bytes[TANDOS_IMAGE_MAX + 1];
+static tandos_image disc = { bytes, 0, TANDOS_TEN, TANDOS_PLAIN };
 
 /* As many bytes as a file has, at most `size`. */
 static bool read_file(const char *path, uint8_t *buffer, size_t size,
@@ -95,6 +96,8 @@ static bool check_image(void)
     if (!is_done("The check", checked.number))
         return false;
     printf("  %s\n", tandos_rule_text(checked.rule));
+    if (checked.rule != 0)
+        printf("  %s\n", tandos_refusal_text(TANDOS_UNSOUND));
     return checked.rule == 0;
 }
 
@@ -146,27 +149,48 @@ static bool visit(const char *path, const struct task *task)
     return true;
 }
 
+static bool state_sectors(const char *number)
+{
+    if (number != NULL && strcmp(number, "9") == 0)
+        disc.sectors = TANDOS_NINE;
+    else if (number != NULL && strcmp(number, "10") == 0)
+        disc.sectors = TANDOS_TEN;
+    else
+        return false;
+    return true;
+}
+
+/* States what the options say, and gives the words after them; NULL if one of
+ * them is unknown. The name of the correction, which comes first of the other
+ * words, begins with no hyphen. */
+static char **after_options(char **words)
+{
+    for (; *words != NULL && **words == '-'; words++)
+        if (strcmp(*words, "--moved") == 0)
+            disc.arrangement = TANDOS_MOVED;
+        else if (strcmp(*words, "--sectors") != 0 || !state_sectors(*++words))
+            return NULL;
+    return words;
+}
+
 int main(int argc, char **argv)
 {
     static struct task task;
+    char **words = after_options(argv + 1);
+    int count = words == NULL ? 0 : argc - (int)(words - argv);
     int done = 0, i;
 
-    if (argc > 1 && strcmp(argv[1], "--moved") == 0) {
-        disc.arrangement = TANDOS_MOVED;
-        argc--;
-        argv++;
-    }
-    if (argc < 5) {
-        fprintf(stderr, "Usage: round [--moved] CORRECTION FILE LAST-WEEK "
-                "IMAGE..\n");
+    if (count < 4) {
+        fprintf(stderr, "Usage: round [--sectors 9|10] [--moved] CORRECTION "
+                "FILE LAST-WEEK IMAGE..\n");
         return 2;
     }
-    task.correction = argv[1];
-    task.last_week = argv[3];
-    if (!read_file(argv[2], task.sheet, sizeof task.sheet, &task.sheet_length))
+    task.correction = words[0];
+    task.last_week = words[2];
+    if (!read_file(words[1], task.sheet, sizeof task.sheet, &task.sheet_length))
         return 2;
-    for (i = 4; i < argc; i++)
-        done += visit(argv[i], &task);
-    printf("%d of %d discs done.\n", done, argc - 4);
-    return done == argc - 4 ? EXIT_SUCCESS : EXIT_FAILURE;
+    for (i = 3; i < count; i++)
+        done += visit(words[i], &task);
+    printf("%d of %d discs done.\n", done, count - 3);
+    return done == count - 3 ? EXIT_SUCCESS : EXIT_FAILURE;
 }

@@ -9,19 +9,27 @@
  * written in C, tested, not proved.
  *
  * THE DISC. An image is one side of a single density disc: T tracks (1 to 80),
- * numbered from 0, of 10 sectors, numbered 1 to 10, of 256 bytes. Sector s of
+ * numbered from 0, of S sectors, numbered 1 to S, of 256 bytes. Sector s of
  * track t is written t/s. 0/1 is the system sector. On a sound disc every other
  * sector is in exactly one place: in the directory, in one file, or in the free
  * chain.
+ *
+ * THE SECTORS OF A TRACK. S is TANDOS_TEN, or TANDOS_NINE on the early discs.
+ * Every call on an image is told which: its length can't tell (40 tracks of
+ * nine sectors are as long as 36 of ten). An image stated wrongly is refused
+ * with TANDOS_SIZE where its length is wrong, and is else as a rule not sound,
+ * so that calls answer TANDOS_UNSOUND and change nothing; a check with the
+ * other number then tells.
  *
  * THE ARRANGEMENT. The tracks follow one another in the image; the sectors of
  * each track stand in one of two arrangements, and every call on an image is
  * told which:
  *
  *    TANDOS_PLAIN  in the order of their numbers, so that t/s starts at byte
- *                  256 * (10 * t + s - 1)
+ *                  256 * (S * t + s - 1)
  *    TANDOS_MOVED  in passing order, 1, 4, 7, 10, 3, 6, 9, 2, 5, 8, as the new
- *                  card stores them: of track 0, 0/4 starts at byte 256
+ *                  card stores them: of track 0, 0/4 starts at byte 256; only
+ *                  with ten sectors a track
  *
  * Only a sector's place in the image moves. Track, sector and every byte on the
  * disc (links, pointers, entries) mean the same in both arrangements: on a
@@ -29,7 +37,8 @@
  * leaves the moved form of what it leaves there. No byte of an image tells its
  * arrangement. A disc read in the wrong one is as a rule not sound, so that
  * calls answer TANDOS_UNSOUND and change nothing; a check in the other one
- * then tells. The caller states the same arrangement in every call on an image.
+ * then tells. The caller states the same sectors and the same arrangement in
+ * every call on an image.
  *
  * MEMORY. All memory is the caller's. The image is lent for the time of a call
  * and changed in place; calls keep no state, so different images may be used
@@ -44,8 +53,8 @@
  * ANSWERS. A call answers TANDOS_DONE or the number of a refusal: the first
  * that applies, in the order in which the call's comment has them. With a
  * refusal every other number of the answer is 0 and all lent memory stays as
- * it was. Numbers are never cut to fewer bits: page 256 is out of range,
- * arrangement 256 is neither of the two, protect with 256 is on.
+ * it was. Numbers are never cut to fewer bits: page 256 is out of range, 266
+ * sectors a track are neither of the two, protect with 256 is on.
  *
  * NAMES. A file name as typed is 1 to 6 of A-Z and 0-9, then nothing, or a dot
  * and 1 to 3 of the same: "THU.PCS". It is stored as nine bytes, six of name
@@ -73,12 +82,15 @@ extern "C" {
 /* ---- Sizes, in bytes unless said otherwise ---- */
 
 #define TANDOS_SECTOR_SIZE 256
-#define TANDOS_SECTORS_PER_TRACK 10
-#define TANDOS_TRACK_SIZE 2560
 #define TANDOS_MAX_TRACKS 80
 
-/* The length of an image of 1 to TANDOS_MAX_TRACKS tracks. */
-#define TANDOS_IMAGE_SIZE(tracks) ((size_t)(tracks) * TANDOS_TRACK_SIZE)
+/* The length of an image of 1 to TANDOS_MAX_TRACKS tracks, of TANDOS_NINE or
+ * TANDOS_TEN sectors each. */
+#define TANDOS_IMAGE_SIZE(tracks, sectors) \
+    ((size_t)(tracks) * (sectors) * TANDOS_SECTOR_SIZE)
+
+/* The longest image (204,800). */
+#define TANDOS_IMAGE_MAX TANDOS_IMAGE_SIZE(TANDOS_MAX_TRACKS, TANDOS_TEN)
 
 /* A stored name, of a file or a disc. */
 #define TANDOS_NAME_SIZE 9
@@ -117,8 +129,8 @@ extern "C" {
 /* What a call answers: 0, or the number of a refusal. */
 enum tandos_refusal {
     TANDOS_DONE = 0,      /* nothing was refused */
-    TANDOS_SIZE = 1,      /* image length isn't 2,560 times 1 to 80, or the
-                             arrangement is neither of the two */
+    TANDOS_SIZE = 1,      /* image length isn't 256 times the sectors stated
+                             times 1 to 80, or there is no disc as stated */
     TANDOS_NAME = 2,      /* a file or disc name breaks its rule */
     TANDOS_UNSOUND = 3,   /* the check finds a broken rule */
     TANDOS_ABSENT = 4,    /* no such file */
@@ -130,6 +142,12 @@ enum tandos_refusal {
                              byte those of any load module */
     TANDOS_SHORT = 10,    /* the lent buffer can't hold the answer */
     TANDOS_NO_SECTOR = 11 /* view of a sector not on the disc */
+};
+
+/* The number of sectors of each track. */
+enum tandos_sectors {
+    TANDOS_NINE = 9, /* the early discs */
+    TANDOS_TEN = 10
 };
 
 /* The order in which an image has the sectors of each track. */
@@ -165,10 +183,12 @@ enum tandos_attribute {
 typedef struct {
     uint8_t *bytes;
     size_t length;
-    uint32_t arrangement;
+    uint32_t sectors;     /* of each track: TANDOS_NINE or TANDOS_TEN */
+    uint32_t arrangement; /* TANDOS_PLAIN or TANDOS_MOVED */
 } tandos_image;
 
-#define TANDOS_ON(image) (image).bytes, (image).length, (image).arrangement
+#define TANDOS_ON(image) \
+    (image).bytes, (image).length, (image).sectors, (image).arrangement
 #define TANDOS_TEXT(string) (const uint8_t *)(string), strlen(string)
 
 /* ---- Answers of more than one number ---- */
@@ -195,14 +215,16 @@ typedef struct {
 /* ---- The proved calls ---- */
 
 /*
- * TANDOS_SIZE is the same refusal everywhere: image_len isn't 2,560 times 1 to
- * 80, or arrangement is neither TANDOS_PLAIN nor TANDOS_MOVED.
+ * TANDOS_SIZE is the same refusal everywhere: sectors is neither TANDOS_NINE
+ * nor TANDOS_TEN, arrangement is neither TANDOS_PLAIN nor TANDOS_MOVED, it is
+ * TANDOS_MOVED with TANDOS_NINE, or image_len isn't 256 times sectors times 1
+ * to 80.
  */
 
 /*
  * Checks an image. On an image of a right size the number is TANDOS_DONE, and
  * `rule` is the lowest-numbered rule that is broken, or 0 where the image is
- * sound. "On the disc" means track below T, sector 1 to 10.
+ * sound. "On the disc" means track below T, sector 1 to S.
  *
  *  1. The directory pointer is on the disc and isn't 0/1.
  *  2. The directory chain meets only sectors on the disc, ends, meets none
@@ -223,10 +245,10 @@ typedef struct {
  *     chain.
  *
  * Changes nothing. Refusals:
- *   TANDOS_SIZE      wrong image_len or arrangement (rule is 0).
+ *   TANDOS_SIZE      wrong image_len, sectors or arrangement (rule is 0).
  */
 tandos_checked tandos_check(const uint8_t *image, size_t image_len,
-                            uint32_t arrangement);
+                            uint32_t sectors, uint32_t arrangement);
 
 /*
  * Lists a disc: writes records to the front of the buffer and gives their
@@ -239,19 +261,19 @@ tandos_checked tandos_check(const uint8_t *image, size_t image_len,
  *   end, once:  0
  *
  * TANDOS_LIST_MAX bytes of buffer are always enough. Refusals:
- *   TANDOS_SIZE      wrong image_len or arrangement.
+ *   TANDOS_SIZE      wrong image_len, sectors or arrangement.
  *   TANDOS_UNSOUND   the check finds a broken rule.
  *   TANDOS_SHORT     buffer_len is less than the length of the records.
  */
 tandos_listed tandos_list(const uint8_t *image, size_t image_len,
-                          uint32_t arrangement,
+                          uint32_t sectors, uint32_t arrangement,
                           uint8_t *buffer, size_t buffer_len);
 
 /*
  * Reads a file: gives its page, start, end, transfer and length L, and its L
  * bytes at the front of the buffer. The rest of the buffer and the image stay.
  * TANDOS_SHEET_MAX bytes of buffer are always enough. Refusals:
- *   TANDOS_SIZE      wrong image_len or arrangement.
+ *   TANDOS_SIZE      wrong image_len, sectors or arrangement.
  *   TANDOS_NAME      the name is no file name as typed.
  *   TANDOS_UNSOUND   the check finds a broken rule.
  *   TANDOS_ABSENT    no file has this name.
@@ -260,7 +282,7 @@ tandos_listed tandos_list(const uint8_t *image, size_t image_len,
  *   TANDOS_SHORT     buffer_len is less than L.
  */
 tandos_reading tandos_read(const uint8_t *image, size_t image_len,
-                           uint32_t arrangement,
+                           uint32_t sectors, uint32_t arrangement,
                            const uint8_t *name, size_t name_len,
                            uint8_t *buffer, size_t buffer_len);
 
@@ -270,7 +292,7 @@ tandos_reading tandos_read(const uint8_t *image, size_t image_len,
  * after those for the directory if no slot is free there. The entry goes to
  * the first free slot in directory order. Free pointer and both counts follow.
  * Refusals:
- *   TANDOS_SIZE      wrong image_len or arrangement.
+ *   TANDOS_SIZE      wrong image_len, sectors or arrangement.
  *   TANDOS_NAME      the name is no file name as typed.
  *   TANDOS_MODULE    page is above 7, or sheet_len is 0 or above
  *                    65,536 - start.
@@ -280,7 +302,7 @@ tandos_reading tandos_read(const uint8_t *image, size_t image_len,
  *                    directory's sector counted.
  */
 uint32_t tandos_save(uint8_t *image, size_t image_len,
-                     uint32_t arrangement,
+                     uint32_t sectors, uint32_t arrangement,
                      const uint8_t *name, size_t name_len,
                      uint32_t page, uint16_t start, uint16_t transfer,
                      const uint8_t *sheet, size_t sheet_len);
@@ -289,19 +311,19 @@ uint32_t tandos_save(uint8_t *image, size_t image_len,
  * Deletes a file: clears its slot and puts its sectors, in order, in front of
  * the free chain. Both counts follow. The sectors keep their bytes, but for the
  * last one's link; a directory sector that is emptied stays. Refusals:
- *   TANDOS_SIZE      wrong image_len or arrangement.
+ *   TANDOS_SIZE      wrong image_len, sectors or arrangement.
  *   TANDOS_NAME      the name is no file name as typed.
  *   TANDOS_UNSOUND   the check finds a broken rule.
  *   TANDOS_ABSENT    no file has this name.
  *   TANDOS_PROTECTED the file is protected.
  */
 uint32_t tandos_delete(uint8_t *image, size_t image_len,
-                       uint32_t arrangement,
+                       uint32_t sectors, uint32_t arrangement,
                        const uint8_t *name, size_t name_len);
 
 /*
  * Renames a file: changes the nine name bytes of its entry. Refusals:
- *   TANDOS_SIZE      wrong image_len or arrangement.
+ *   TANDOS_SIZE      wrong image_len, sectors or arrangement.
  *   TANDOS_NAME      either name is no file name as typed.
  *   TANDOS_UNSOUND   the check finds a broken rule.
  *   TANDOS_ABSENT    no file has the old name.
@@ -309,7 +331,7 @@ uint32_t tandos_delete(uint8_t *image, size_t image_len,
  *   TANDOS_TAKEN     a file has the new name, be it the file itself.
  */
 uint32_t tandos_rename(uint8_t *image, size_t image_len,
-                       uint32_t arrangement,
+                       uint32_t sectors, uint32_t arrangement,
                        const uint8_t *old_name, size_t old_len,
                        const uint8_t *new_name, size_t new_len);
 
@@ -317,35 +339,36 @@ uint32_t tandos_rename(uint8_t *image, size_t image_len,
  * Protects a file (on is not 0) or lifts its protection (on is 0): writes $80
  * or $00 to the attribute of its entry. Asking for what already stands is done,
  * with nothing changed. Refusals:
- *   TANDOS_SIZE      wrong image_len or arrangement.
+ *   TANDOS_SIZE      wrong image_len, sectors or arrangement.
  *   TANDOS_NAME      the name is no file name as typed.
  *   TANDOS_UNSOUND   the check finds a broken rule.
  *   TANDOS_ABSENT    no file has this name.
  */
 uint32_t tandos_protect(uint8_t *image, size_t image_len,
-                        uint32_t arrangement,
+                        uint32_t sectors, uint32_t arrangement,
                         const uint8_t *name, size_t name_len, uint32_t on);
 
 /*
  * Makes the image a blank data disc of this name, whatever it was before: a
  * directory of one sector at 0/4 with no entry, and every sector but that and
- * 0/1 in the free chain, which begins at 0/7. Free count 10 * T - 2, used count
- * 0. Refusals:
- *   TANDOS_SIZE      wrong image_len or arrangement.
+ * 0/1 in the free chain, which begins at 0/7 and passes the sectors of each
+ * track in the order 1, 4, 7, 10, 3, 6, 9, 2, 5, 8, or of nine in the order 1,
+ * 4, 7, 2, 5, 8, 3, 6, 9. Free count S * T - 2, used count 0. Refusals:
+ *   TANDOS_SIZE      wrong image_len, sectors or arrangement.
  *   TANDOS_NAME      the name is no disc name.
  */
 uint32_t tandos_blank(uint8_t *image, size_t image_len,
-                      uint32_t arrangement,
+                      uint32_t sectors, uint32_t arrangement,
                       const uint8_t *name, size_t name_len);
 
 /*
  * The refusal number of a sector view of the same arguments. The image need
  * not be sound. Changes nothing. Refusals:
- *   TANDOS_SIZE      wrong image_len or arrangement.
- *   TANDOS_NO_SECTOR track isn't below T, or sector isn't 1 to 10.
+ *   TANDOS_SIZE      wrong image_len, sectors or arrangement.
+ *   TANDOS_NO_SECTOR track isn't below T, or sector isn't 1 to S.
  */
 uint32_t tandos_view_number(const uint8_t *image, size_t image_len,
-                            uint32_t arrangement,
+                            uint32_t sectors, uint32_t arrangement,
                             uint32_t track, uint32_t sector);
 
 /*
@@ -355,7 +378,7 @@ uint32_t tandos_view_number(const uint8_t *image, size_t image_len,
  * view begins, if tandos_view_number with the same arguments isn't 0.
  */
 uint32_t tandos_view_start(const uint8_t *image, size_t image_len,
-                           uint32_t arrangement,
+                           uint32_t sectors, uint32_t arrangement,
                            uint32_t track, uint32_t sector);
 
 /* ---- Written in C, tested, not proved ---- */
@@ -368,7 +391,7 @@ uint32_t tandos_view_start(const uint8_t *image, size_t image_len,
  * tandos_view_number of them isn't 0.
  */
 const uint8_t *tandos_view(const uint8_t *image, size_t image_len,
-                           uint32_t arrangement,
+                           uint32_t sectors, uint32_t arrangement,
                            uint32_t track, uint32_t sector);
 
 /* The name of a number that a call answers: "DONE", "SIZE", .. "NO SECTOR".

@@ -1,9 +1,7 @@
 //! The discs that the calls are timed on.
 
+use compare::kind::Kind;
 use reference::generate::capacity;
-
-const PLAIN: u32 = 0;
-const MOVED: u32 = 1;
 
 /// Takes 80 sectors.
 const LARGE_BYTES: usize = 20_000;
@@ -14,53 +12,49 @@ const LEFT_FREE: usize = 10;
 const SHEET_BYTES: usize = 5000;
 const SHEET_SECTORS: usize = 20;
 
-/// An image, its arrangement and the name of the file that calls name, the last
-/// of the directory.
+/// An image, its kind and the name of the file that calls name, the last of the
+/// directory.
 #[derive(Debug, Clone)]
 pub struct Disc {
     pub image: Vec<u8>,
-    pub arrangement: u32,
+    pub kind: Kind,
     pub file: Vec<u8>,
 }
 
-fn blank(tracks: usize) -> Disc {
-    let mut image = vec![0; 2560 * tracks];
-    assert_eq!(reference::blank(&mut image, PLAIN, b"BENCH"), 0);
+fn blank(kind: Kind, tracks: usize) -> Disc {
+    let mut image = vec![0; kind.track_bytes() * tracks];
+    let number = reference::blank(&mut image, kind.sectors(), kind.arrangement(), b"BENCH");
+    assert_eq!(number, 0);
     Disc {
         image,
-        arrangement: PLAIN,
+        kind,
         file: Vec::new(),
     }
 }
 
 impl Disc {
-    /// The same disc in the other arrangement.
-    pub fn moved(&self) -> Disc {
-        let image = reference::rearranged(&self.image, self.arrangement, MOVED);
-        Disc {
-            image: image.expect("the image is of a right size"),
-            arrangement: MOVED,
-            file: self.file.clone(),
-        }
-    }
-
+    /// 0/1 comes first in every kind of image.
     fn free(&self) -> usize {
         usize::from(u16::from_le_bytes([self.image[0x14], self.image[0x15]]))
     }
 
     pub fn last_track(&self) -> u32 {
-        (self.image.len() / 2560) as u32 - 1
+        (self.image.len() / self.kind.track_bytes()) as u32 - 1
     }
 
     fn save(&mut self, name: String, length: usize) {
         self.file = name.into_bytes();
         let sheet: Vec<u8> = (0..length).map(|at| (at * 7) as u8).collect();
-        let Disc {
-            image,
-            arrangement,
-            file,
-        } = self;
-        let number = reference::save(image, *arrangement, file, 0, 0x2000, 0x2000, &sheet);
+        let number = reference::save(
+            &mut self.image,
+            self.kind.sectors(),
+            self.kind.arrangement(),
+            &self.file,
+            0,
+            0x2000,
+            0x2000,
+            &sheet,
+        );
         assert_eq!(number, 0, "the file fits");
     }
 
@@ -90,29 +84,29 @@ impl Disc {
 }
 
 /// Nearly full, with few files.
-pub fn few_large_files(tracks: usize) -> Disc {
-    let mut disc = blank(tracks);
+pub fn few_large_files(kind: Kind, tracks: usize) -> Disc {
+    let mut disc = blank(kind, tracks);
     disc.fill(LEFT_FREE);
     disc
 }
 
-pub fn small_files(tracks: usize, count: usize) -> Disc {
-    let mut disc = blank(tracks);
+pub fn small_files(kind: Kind, tracks: usize, count: usize) -> Disc {
+    let mut disc = blank(kind, tracks);
     disc.save_small_files(count);
     disc
 }
 
 /// Nearly full, with few files, the last of which is the sheet.
-pub fn few_large_files_and_sheet(tracks: usize) -> Disc {
-    let mut disc = blank(tracks);
+pub fn few_large_files_and_sheet(kind: Kind, tracks: usize) -> Disc {
+    let mut disc = blank(kind, tracks);
     disc.fill(LEFT_FREE + SHEET_SECTORS);
     disc.save_sheet();
     disc
 }
 
 /// Small files, and behind them the sheet.
-pub fn small_files_and_sheet(tracks: usize, count: usize) -> Disc {
-    let mut disc = small_files(tracks, count);
+pub fn small_files_and_sheet(kind: Kind, tracks: usize, count: usize) -> Disc {
+    let mut disc = small_files(kind, tracks, count);
     disc.save_sheet();
     disc
 }
@@ -122,29 +116,38 @@ mod tests {
     use super::*;
 
     fn is_sound(disc: &Disc) -> bool {
-        let checked = reference::check(&disc.image, disc.arrangement);
+        let (sectors, arrangement) = (disc.kind.sectors(), disc.kind.arrangement());
+        let checked = reference::check(&disc.image, sectors, arrangement);
         (checked.number, checked.rule) == (0, 0)
     }
 
     #[test]
     fn nearly_full_discs_keep_room_for_a_save() {
-        for tracks in [5, 10, 20, 40, 80] {
-            for disc in [few_large_files(tracks), few_large_files_and_sheet(tracks)] {
-                for disc in [disc.moved(), disc] {
+        for kind in Kind::ALL {
+            for tracks in [5, 10, 20, 40, 80] {
+                for disc in [
+                    few_large_files(kind, tracks),
+                    few_large_files_and_sheet(kind, tracks),
+                ] {
                     assert!(is_sound(&disc));
                     assert_eq!(disc.free(), LEFT_FREE);
+                    assert_eq!(disc.last_track() as usize, tracks - 1);
                 }
             }
+            assert_eq!(few_large_files(kind, 40).file, b"LARGE3");
         }
-        assert_eq!(few_large_files(40).file, b"LARGE3");
     }
 
     #[test]
     fn small_files_stand_in_as_many_entries() {
-        let disc = small_files_and_sheet(80, 600);
-        assert!(is_sound(&disc));
-        let listed = reference::list(&disc.image, disc.arrangement, &mut vec![0; 65_536]);
-        assert_eq!(listed.length, 14 + 13 * 601 + 1);
-        assert_eq!(disc.file, b"SHEET");
+        for kind in Kind::ALL {
+            let disc = small_files_and_sheet(kind, 80, 600);
+            assert!(is_sound(&disc));
+            let (sectors, arrangement) = (kind.sectors(), kind.arrangement());
+            let buffer = &mut vec![0; 65_536];
+            let listed = reference::list(&disc.image, sectors, arrangement, buffer);
+            assert_eq!(listed.length, 14 + 13 * 601 + 1);
+            assert_eq!(disc.file, b"SHEET");
+        }
     }
 }

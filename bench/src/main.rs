@@ -1,5 +1,5 @@
-//! Times the library's calls against the second program's, on the same discs,
-//! plain and moved, in one run.
+//! Times the library's calls against the second program's, on the same discs of
+//! every kind, in one run.
 
 #![forbid(unsafe_code)]
 
@@ -9,12 +9,13 @@ mod operation;
 mod program;
 mod table;
 
+use compare::kind::Kind;
 use operation::Operation;
 use std::process::ExitCode;
 use table::{Row, Table};
 
 const USAGE: &str = "usage: bench [--growth]";
-const ROUNDS: usize = 501;
+const ROUNDS: usize = 401;
 const GROWTH_ROUNDS: usize = 101;
 const GROWING: [Operation; 3] = [Operation::Check, Operation::SaveAndDelete, Operation::Read];
 
@@ -43,14 +44,20 @@ fn main() -> ExitCode {
 fn calls() -> Vec<Row> {
     let mut rows = Vec::new();
     for tracks in [40, 80] {
-        for (label, disc) in [
-            ("few large files", discs::few_large_files(tracks)),
-            ("300 small files", discs::small_files(tracks, 300)),
+        for (label, discs) in [
+            (
+                "few large files",
+                Kind::ALL.map(|kind| discs::few_large_files(kind, tracks)),
+            ),
+            (
+                "300 small files",
+                Kind::ALL.map(|kind| discs::small_files(kind, tracks, 300)),
+            ),
         ] {
             rows.extend(Operation::ALL.map(|operation| Row {
                 label: format!("{}, {tracks} tracks, {label}", operation.name()),
                 operation,
-                disc: disc.clone(),
+                discs: discs.clone(),
             }));
         }
     }
@@ -64,12 +71,12 @@ fn growth() -> Vec<Row> {
         rows.extend([5, 10, 20, 40, 80].map(|tracks| Row {
             label: format!("{}, {tracks} tracks, few large files", operation.name()),
             operation,
-            disc: discs::few_large_files_and_sheet(tracks),
+            discs: Kind::ALL.map(|kind| discs::few_large_files_and_sheet(kind, tracks)),
         }));
         rows.extend([0, 15, 60, 150, 300, 600].map(|files| Row {
             label: format!("{}, 80 tracks, {files} small files", operation.name()),
             operation,
-            disc: discs::small_files_and_sheet(80, files),
+            discs: Kind::ALL.map(|kind| discs::small_files_and_sheet(kind, 80, files)),
         }));
     }
     rows

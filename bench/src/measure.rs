@@ -1,4 +1,4 @@
-//! Medians over interleaved batches of both programs on both arrangements.
+//! Medians over interleaved batches of both programs on every kind of disc.
 
 use crate::discs::Disc;
 use crate::operation::{repeat, Lent, Operation};
@@ -6,10 +6,16 @@ use crate::program::{Program, LIBRARY, SECOND};
 use std::time::{Duration, Instant};
 
 const BATCH: Duration = Duration::from_micros(200);
-/// The turns of four series in four rounds. A batch is slower after another
-/// program's or on another image, so each series comes after each other one,
-/// never after itself.
-const TURNS: [[usize; 4]; 4] = [[0, 1, 3, 2], [1, 2, 0, 3], [2, 3, 1, 0], [3, 0, 2, 1]];
+/// One for each program on each kind of disc.
+const SERIES: usize = 6;
+/// The turns of the first round. A batch is slower after another program's or
+/// on another image, so in as many rounds as there are series each comes after
+/// each other one, never after itself.
+const FIRST_TURNS: [usize; SERIES] = [0, 1, 5, 2, 4, 3];
+
+fn turns(round: usize) -> [usize; SERIES] {
+    FIRST_TURNS.map(|first| (first + round) % SERIES)
+}
 
 /// Median nanoseconds of one operation by each program.
 #[derive(Debug, Clone, Copy)]
@@ -24,7 +30,7 @@ impl Measured {
     }
 }
 
-/// One program on one of the two images.
+/// One program on the image of one kind.
 struct Series {
     program: &'static Program,
     image: usize,
@@ -32,61 +38,51 @@ struct Series {
     taken: Vec<f64>,
 }
 
-/// Of the disc as it is and of the moved one; nothing if the programs do not
-/// answer, or leave the lent memory, alike.
-pub fn measure(operation: Operation, disc: &Disc, rounds: usize) -> Option<[Measured; 2]> {
-    let discs = [disc.clone(), disc.moved()];
-    if !alike(operation, &discs) {
+/// The figures of each disc; nothing if a program refuses a call, or the two
+/// leave the lent memory other than alike.
+pub fn measure(operation: Operation, discs: &[Disc; 3], rounds: usize) -> Option<Vec<Measured>> {
+    if !discs.iter().all(|disc| done_alike(operation, disc)) {
         return None;
     }
-    let mut lent = discs.map(|disc| Lent::new(&disc));
+    let mut lent: Vec<Lent> = discs.iter().map(Lent::new).collect();
     let mut series = all_series(operation, &mut lent, rounds);
     for round in 0..rounds {
-        for turn in TURNS[round % TURNS.len()] {
+        for turn in turns(round) {
             let one = &mut series[turn];
             let taken = timed(operation, one.program, &mut lent[one.image], one.times);
             one.taken.push(taken);
         }
     }
     let medians = series.map(|mut one| median(&mut one.taken));
-    let [plain_library, plain_second, moved_library, moved_second] = medians;
-    Some([
-        Measured {
-            library: plain_library,
-            second: plain_second,
-        },
-        Measured {
-            library: moved_library,
-            second: moved_second,
-        },
-    ])
+    let of_image = |both: &[f64]| Measured {
+        library: both[0],
+        second: both[1],
+    };
+    Some(medians.chunks(2).map(of_image).collect())
 }
 
-/// The library and the second program on the plain image, then on the moved
-/// one.
-fn all_series(operation: Operation, lent: &mut [Lent; 2], rounds: usize) -> [Series; 4] {
-    [(&LIBRARY, 0), (&SECOND, 0), (&LIBRARY, 1), (&SECOND, 1)].map(|(program, image)| Series {
-        program,
-        image,
-        times: batch_size(operation, program, &mut lent[image]),
-        taken: Vec::with_capacity(rounds),
+/// The library and the second program on one image after the other.
+fn all_series(operation: Operation, lent: &mut [Lent], rounds: usize) -> [Series; SERIES] {
+    [0, 1, 2, 3, 4, 5].map(|at| {
+        let (image, program) = (at / 2, [&LIBRARY, &SECOND][at % 2]);
+        Series {
+            program,
+            image,
+            times: batch_size(operation, program, &mut lent[image]),
+            taken: Vec::with_capacity(rounds),
+        }
     })
 }
 
-/// Whether both programs give the same on each disc, and the same sum on both:
-/// a refused call would otherwise pass for a fast one.
-fn alike(operation: Operation, [plain, moved]: &[Disc; 2]) -> bool {
-    let sums = [plain, moved].map(|disc| sum_of_both(operation, disc));
-    sums[0].is_some() && sums[0] == sums[1]
-}
-
-fn sum_of_both(operation: Operation, disc: &Disc) -> Option<u64> {
+/// Whether both programs do what is asked, since a refused call would pass for
+/// a fast one, and leave the same.
+fn done_alike(operation: Operation, disc: &Disc) -> bool {
     let [library, second] = [&LIBRARY, &SECOND].map(|program| {
         let mut lent = Lent::new(disc);
-        let sum = repeat(operation, program, &mut lent, 1);
-        (sum, lent)
+        let numbers = repeat(operation, program, &mut lent, 1);
+        (numbers, lent)
     });
-    (library == second).then_some(library.0)
+    library.0 == 0 && library == second
 }
 
 /// How many repetitions take about the time of a batch.
@@ -119,19 +115,36 @@ fn median(values: &mut [f64]) -> f64 {
 #[cfg(test)]
 mod tests {
     use super::*;
+    use crate::discs;
+    use compare::kind::Kind;
 
     #[test]
     fn every_series_comes_after_every_other_and_never_after_itself() {
-        let turns: Vec<usize> = TURNS.concat();
+        let turns: Vec<usize> = (0..SERIES).flat_map(turns).collect();
         let before = turns.iter().cycle().skip(turns.len() - 1);
-        let mut met = [[0; 4]; 4];
+        let mut met = [[0; SERIES]; SERIES];
         for (&first, &then) in before.zip(&turns) {
             met[then][first] += 1;
         }
         for (series, after) in met.iter().enumerate() {
             assert_eq!(after[series], 0);
-            assert!((0..4).all(|other| other == series || after[other] > 0));
+            assert!((0..SERIES).all(|other| other == series || after[other] > 0));
         }
+    }
+
+    #[test]
+    fn every_operation_is_done_on_every_kind_of_disc() {
+        for kind in Kind::ALL {
+            let disc = discs::few_large_files(kind, 2);
+            assert!(Operation::ALL.iter().all(|&one| done_alike(one, &disc)));
+        }
+    }
+
+    #[test]
+    fn a_refused_operation_is_not_timed() {
+        let mut disc = discs::few_large_files(Kind::Nine, 2);
+        disc.kind = Kind::Ten;
+        assert!(!Operation::ALL.iter().any(|&one| done_alike(one, &disc)));
     }
 
     #[test]

@@ -53,6 +53,7 @@ impl Operation {
 #[derive(Debug, Clone, PartialEq, Eq)]
 pub struct Lent {
     image: Vec<u8>,
+    sectors: u32,
     arrangement: u32,
     file: Vec<u8>,
     sheet: Vec<u8>,
@@ -64,7 +65,8 @@ impl Lent {
     pub fn new(disc: &Disc) -> Lent {
         Lent {
             image: disc.image.clone(),
-            arrangement: disc.arrangement,
+            sectors: disc.kind.sectors(),
+            arrangement: disc.kind.arrangement(),
             file: disc.file.clone(),
             sheet: (0..SAVED_BYTES).map(|at| (at * 11) as u8).collect(),
             buffer: vec![0; BUFFER_BYTES],
@@ -73,46 +75,79 @@ impl Lent {
     }
 }
 
-/// Repeats an operation; the sum of its answers keeps it from being left out.
+/// Repeats an operation and gives the sum of the numbers that its calls answer,
+/// which is 0 if all was done.
 #[inline(never)]
 pub fn repeat(operation: Operation, program: &Program, lent: &mut Lent, times: u32) -> u64 {
-    let Lent {
-        image,
-        arrangement,
-        file,
-        sheet,
-        buffer,
-        last_track,
-    } = lent;
-    let arrangement = *arrangement;
     match operation {
-        Operation::Check => summed(times, || {
-            let checked = (program.check)(image, arrangement);
-            checked.number + checked.rule
-        }),
-        Operation::List => summed(times, || (program.list)(image, arrangement, buffer).length),
-        Operation::Read => summed(times, || {
-            (program.read)(image, arrangement, file, buffer).length
-        }),
-        Operation::SaveAndDelete => summed(times, || {
-            (program.save)(image, arrangement, NEW_NAME, 0, 0x2000, 0x2000, sheet)
-                + (program.delete)(image, arrangement, NEW_NAME)
-        }),
-        Operation::Rename => summed(times, || {
-            (program.rename)(image, arrangement, file, NEW_NAME)
-                + (program.rename)(image, arrangement, NEW_NAME, file)
-        }),
-        Operation::Protect => summed(times, || {
-            (program.protect)(image, arrangement, file, 1)
-                + (program.protect)(image, arrangement, file, 0)
-        }),
-        Operation::Blank => summed(times, || (program.blank)(image, arrangement, DISC_NAME)),
-        Operation::ViewNumber => summed(times, || {
-            (program.view_number)(image, arrangement, *last_track, 10)
-        }),
+        Operation::Check => summed(times, || lent.check(program)),
+        Operation::List => summed(times, || lent.list(program)),
+        Operation::Read => summed(times, || lent.read(program)),
+        Operation::SaveAndDelete => summed(times, || lent.save_and_delete(program)),
+        Operation::Rename => summed(times, || lent.rename_and_back(program)),
+        Operation::Protect => summed(times, || lent.protect_on_and_off(program)),
+        Operation::Blank => summed(times, || lent.blank(program)),
+        Operation::ViewNumber => summed(times, || lent.view_number(program)),
     }
 }
 
 fn summed(times: u32, mut call: impl FnMut() -> u32) -> u64 {
     (0..times).map(|_| u64::from(call())).sum()
+}
+
+impl Lent {
+    fn check(&self, program: &Program) -> u32 {
+        let checked = (program.check)(&self.image, self.sectors, self.arrangement);
+        checked.number + checked.rule
+    }
+
+    fn list(&mut self, program: &Program) -> u32 {
+        let (sectors, arrangement) = (self.sectors, self.arrangement);
+        (program.list)(&self.image, sectors, arrangement, &mut self.buffer).number
+    }
+
+    fn read(&mut self, program: &Program) -> u32 {
+        let (sectors, arrangement) = (self.sectors, self.arrangement);
+        let (image, buffer) = (&self.image, &mut self.buffer);
+        (program.read)(image, sectors, arrangement, &self.file, buffer).number
+    }
+
+    fn save_and_delete(&mut self, program: &Program) -> u32 {
+        let (sectors, arrangement) = (self.sectors, self.arrangement);
+        let (image, sheet) = (&mut self.image, &self.sheet);
+        (program.save)(
+            image,
+            sectors,
+            arrangement,
+            NEW_NAME,
+            0,
+            0x2000,
+            0x2000,
+            sheet,
+        ) + (program.delete)(image, sectors, arrangement, NEW_NAME)
+    }
+
+    fn rename_and_back(&mut self, program: &Program) -> u32 {
+        let (sectors, arrangement) = (self.sectors, self.arrangement);
+        let (image, file) = (&mut self.image, &self.file);
+        (program.rename)(image, sectors, arrangement, file, NEW_NAME)
+            + (program.rename)(image, sectors, arrangement, NEW_NAME, file)
+    }
+
+    fn protect_on_and_off(&mut self, program: &Program) -> u32 {
+        let (sectors, arrangement) = (self.sectors, self.arrangement);
+        let (image, file) = (&mut self.image, &self.file);
+        (program.protect)(image, sectors, arrangement, file, 1)
+            + (program.protect)(image, sectors, arrangement, file, 0)
+    }
+
+    fn blank(&mut self, program: &Program) -> u32 {
+        (program.blank)(&mut self.image, self.sectors, self.arrangement, DISC_NAME)
+    }
+
+    /// Of the last sector.
+    fn view_number(&self, program: &Program) -> u32 {
+        let (sectors, arrangement) = (self.sectors, self.arrangement);
+        (program.view_number)(&self.image, sectors, arrangement, self.last_track, sectors)
+    }
 }

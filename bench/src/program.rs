@@ -6,18 +6,20 @@
 use compare::ffi;
 use reference::{Checked, Listed, Reading};
 
-type Save = fn(&mut [u8], u32, &[u8], u32, u16, u16, &[u8]) -> u32;
+type Read = fn(&[u8], u32, u32, &[u8], &mut [u8]) -> Reading;
+type Rename = fn(&mut [u8], u32, u32, &[u8], &[u8]) -> u32;
+type Save = fn(&mut [u8], u32, u32, &[u8], u32, u16, u16, &[u8]) -> u32;
 
 pub struct Program {
-    pub check: fn(&[u8], u32) -> Checked,
-    pub list: fn(&[u8], u32, &mut [u8]) -> Listed,
-    pub read: fn(&[u8], u32, &[u8], &mut [u8]) -> Reading,
+    pub check: fn(&[u8], u32, u32) -> Checked,
+    pub list: fn(&[u8], u32, u32, &mut [u8]) -> Listed,
+    pub read: Read,
     pub save: Save,
-    pub delete: fn(&mut [u8], u32, &[u8]) -> u32,
-    pub rename: fn(&mut [u8], u32, &[u8], &[u8]) -> u32,
-    pub protect: fn(&mut [u8], u32, &[u8], u32) -> u32,
-    pub blank: fn(&mut [u8], u32, &[u8]) -> u32,
-    pub view_number: fn(&[u8], u32, u32, u32) -> u32,
+    pub delete: fn(&mut [u8], u32, u32, &[u8]) -> u32,
+    pub rename: Rename,
+    pub protect: fn(&mut [u8], u32, u32, &[u8], u32) -> u32,
+    pub blank: fn(&mut [u8], u32, u32, &[u8]) -> u32,
+    pub view_number: fn(&[u8], u32, u32, u32, u32) -> u32,
 }
 
 pub static LIBRARY: Program = Program {

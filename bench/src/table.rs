@@ -3,65 +3,72 @@
 use crate::discs::Disc;
 use crate::measure::{measure, Measured};
 use crate::operation::Operation;
+use compare::kind::Kind;
 
+/// An operation on the same disc of each kind, in the order of `Kind::ALL`.
 pub struct Row {
     pub label: String,
     pub operation: Operation,
-    pub disc: Disc,
+    pub discs: [Disc; 3],
 }
 
 /// Prints rows as they are measured and keeps the worst.
 pub struct Table {
-    /// Of the library over the second program.
-    ratio: Worst,
-    /// Of the library's moved image over its plain one.
-    moved: Worst,
+    /// Of the library over the second program, for each kind.
+    ratios: [Worst; 3],
+    /// Of the library's image of each kind over its plain one of ten sectors.
+    over_ten: [Worst; 3],
 }
 
 impl Table {
     pub fn new() -> Table {
         let (case, library, second) = ("case", "library ns", "reference ns");
         println!(
-            "{case:<54} {library:>12} {second:>12} {:>7} {:>12}",
-            "ratio", "moved/plain"
+            "{case:<59} {library:>12} {second:>12} {:>7} {:>14}",
+            "ratio", "over ten plain"
         );
         Table {
-            ratio: Worst::default(),
-            moved: Worst::default(),
+            ratios: Default::default(),
+            over_ten: Default::default(),
         }
     }
 
-    /// Measures a row and prints it, for the plain image and for the moved one;
-    /// false if the programs do not answer alike.
+    /// Measures a row and prints it, for each kind of disc; false if the
+    /// programs refuse it or differ.
     pub fn print(&mut self, row: &Row, rounds: usize) -> bool {
-        let label = &row.label;
-        let [plain, moved] = match measure(row.operation, &row.disc, rounds) {
+        let measured = match measure(row.operation, &row.discs, rounds) {
             Some(measured) => measured,
             None => {
-                println!("{label}: the two programs differ");
+                println!("{}: refused, or the two programs differ", row.label);
                 return false;
             }
         };
-        let moved_label = format!("{label}, moved");
-        let dearer = moved.library / plain.library;
-        println!("{}", figures(label, &plain));
-        println!("{} {dearer:>12.2}", figures(&moved_label, &moved));
-        self.ratio.note(plain.ratio(), label);
-        self.ratio.note(moved.ratio(), &moved_label);
-        self.moved.note(dearer, label);
+        let ten = measured[0].library;
+        for (at, one) in measured.iter().enumerate() {
+            let label = format!("{}, {}", row.label, Kind::ALL[at].name());
+            let over_ten = one.library / ten;
+            println!("{} {over_ten:>14.2}", figures(&label, one));
+            self.ratios[at].note(one.ratio(), &label);
+            self.over_ten[at].note(over_ten, &label);
+        }
         true
     }
 
     pub fn print_worst(&self) {
-        self.ratio.print("ratio");
-        self.moved.print("moved/plain");
+        for worst in &self.ratios {
+            worst.print("ratio");
+        }
+        // Ten over itself tells nothing.
+        for worst in &self.over_ten[1..] {
+            worst.print("over ten plain");
+        }
     }
 }
 
 fn figures(label: &str, measured: &Measured) -> String {
     let (library, second) = (measured.library, measured.second);
     let ratio = measured.ratio();
-    format!("{label:<54} {library:>12.1} {second:>12.1} {ratio:>7.2}")
+    format!("{label:<59} {library:>12.1} {second:>12.1} {ratio:>7.2}")
 }
 
 #[derive(Debug, Default)]

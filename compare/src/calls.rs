@@ -1,10 +1,9 @@
 //! The nine calls and the order of their refusals, as document 01 gives it.
 
-use crate::arrangement::Stated;
+use crate::kind::Stated;
 use reference::command::Command;
 
-/// The refusal of a wrong length, and of a number that states neither
-/// arrangement.
+/// The refusal of a wrong length, and of numbers that state no kind of disc.
 pub const SIZE: u32 = 1;
 
 #[derive(Debug, Clone, Copy, PartialEq, Eq, PartialOrd, Ord)]
@@ -79,22 +78,22 @@ impl Call {
     /// What the call can answer where this is stated.
     pub fn answers(self, stated: Stated) -> Vec<u32> {
         match stated {
-            Stated::Neither => vec![SIZE],
-            _ => std::iter::once(0)
+            Stated::Kind(_) => std::iter::once(0)
                 .chain(self.order().iter().copied())
                 .collect(),
+            _ => vec![SIZE],
         }
     }
 
     /// The pairs of refusals that can apply at once where this is stated, the
-    /// answer first. Where neither arrangement is stated, it is 1.
+    /// answer first. Where no kind of disc is stated, it is 1.
     pub fn pairs(self, stated: Stated) -> Vec<(u32, u32)> {
         let order = self.order();
         let after = |at: usize| order[at + 1..].iter().map(move |&later| (order[at], later));
         (0..order.len())
             .flat_map(after)
             .filter(|&(first, later)| self.can_all_apply(&[first, later]))
-            .filter(|&(first, _)| stated != Stated::Neither || first == SIZE)
+            .filter(|&(first, _)| stated.kind().is_some() || first == SIZE)
             .collect()
     }
 
@@ -114,10 +113,11 @@ impl Call {
 #[cfg(test)]
 mod tests {
     use super::*;
+    use crate::kind::Kind;
 
     #[test]
     fn pairs_follow_the_order() {
-        for stated in [Stated::Plain, Stated::Moved] {
+        for stated in Kind::ALL.map(Stated::Kind) {
             assert_eq!(Call::Check.pairs(stated), []);
             assert_eq!(Call::View.pairs(stated), [(1, 11)]);
             assert_eq!(Call::List.pairs(stated), [(1, 3), (1, 10), (3, 10)]);
@@ -132,10 +132,11 @@ mod tests {
     }
 
     #[test]
-    fn a_number_that_states_neither_is_answered_with_1() {
-        let stated = Stated::Neither;
-        assert_eq!(Call::List.answers(stated), [1]);
-        assert_eq!(Call::List.answers(Stated::Moved), [0, 1, 3, 10]);
-        assert_eq!(Call::Protect.pairs(stated), [(1, 2), (1, 3), (1, 4)]);
+    fn numbers_that_state_no_kind_are_answered_with_1() {
+        for stated in [Stated::NoSectors, Stated::NoArrangement, Stated::NineMoved] {
+            assert_eq!(Call::List.answers(stated), [1]);
+            assert_eq!(Call::Protect.pairs(stated), [(1, 2), (1, 3), (1, 4)]);
+        }
+        assert_eq!(Call::List.answers(Stated::Kind(Kind::Nine)), [0, 1, 3, 10]);
     }
 }

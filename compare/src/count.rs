@@ -1,15 +1,25 @@
 //! What occurred in a run of the driver, and what should have but did not.
 
-use crate::arrangement::Stated;
+use crate::kind::Stated;
 use crate::tally::Tally;
 use std::fmt;
 
-#[derive(Debug, Default)]
+#[derive(Debug)]
 pub struct Counts {
     /// One for each of `Stated::ALL`.
-    tallies: [Tally; 3],
+    tallies: [Tally; 6],
     pub passed: u64,
     pub failed: u64,
+}
+
+impl Default for Counts {
+    fn default() -> Counts {
+        Counts {
+            tallies: Stated::ALL.map(Tally::new),
+            passed: 0,
+            failed: 0,
+        }
+    }
 }
 
 impl Counts {
@@ -18,43 +28,47 @@ impl Counts {
     }
 
     pub fn of(&mut self, stated: Stated) -> &mut Tally {
-        &mut self.tallies[stated as usize]
+        &mut self.tallies[stated.place()]
     }
 
     /// Names of what must occur in every run of the driver and did not.
     pub fn missing(&self) -> Vec<String> {
-        let of = |stated: Stated| {
-            let names = self.tallies[stated as usize].missing(stated).into_iter();
-            names.map(move |name| format!("stated {}: {name}", stated.name()))
+        let of = |tally: &Tally| {
+            let stated = tally.stated().name();
+            let names = tally.missing().into_iter();
+            names.map(move |name| format!("stated {stated}: {name}"))
         };
-        Stated::ALL.into_iter().flat_map(of).collect()
+        self.tallies.iter().flat_map(of).collect()
     }
 }
 
 impl fmt::Display for Counts {
     fn fmt(&self, out: &mut fmt::Formatter<'_>) -> fmt::Result {
-        for stated in Stated::ALL {
-            self.tallies[stated as usize].write(out, stated)?;
-        }
-        Ok(())
+        self.tallies.iter().try_for_each(|tally| tally.write(out))
     }
 }
 
 #[cfg(test)]
 mod tests {
     use super::*;
-    use crate::calls::Call;
-    use reference::command::Answer;
+    use crate::kind::Kind;
+    use crate::met::Met;
+    use reference::command::{Answer, Command};
 
     #[test]
     fn every_statement_has_a_tally_of_its_own() {
         let mut counts = Counts::default();
-        let names = |counts: &Counts| counts.missing().join("\n");
-        let refused = Answer::Number(6);
-        counts.of(Stated::Moved).call(Call::Delete, &refused, &[]);
-        assert!(names(&counts).contains("stated plain: delete answering 6"));
-        assert!(!names(&counts).contains("stated moved: delete answering 6"));
-        assert!(!names(&counts).contains("stated neither: delete answering 6"));
-        assert!(names(&counts).contains("stated neither: delete answering 1"));
+        let missing = |counts: &Counts, stated: Stated, number: u32| {
+            let name = format!("stated {}: delete answering {number}", stated.name());
+            counts.missing().contains(&name)
+        };
+        let (nine, ten) = (Stated::Kind(Kind::Nine), Stated::Kind(Kind::Ten));
+        let delete = Command::Delete { name: Vec::new() };
+        let met = Met::by(&[], Kind::Nine.numbers());
+        counts.of(nine).call(&delete, &Answer::Number(6), met);
+        assert!(!missing(&counts, nine, 6) && missing(&counts, nine, 4));
+        assert!(missing(&counts, ten, 6));
+        assert!(!missing(&counts, Stated::NineMoved, 6));
+        assert!(missing(&counts, Stated::NineMoved, 1));
     }
 }

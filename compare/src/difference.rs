@@ -1,5 +1,6 @@
 //! What differs between the two programs after a call, in words.
 
+use crate::kind::Numbers;
 use reference::command::{Answer, Command};
 
 /// The library's answer against the one that it should give.
@@ -40,9 +41,9 @@ fn parts(answer: &Answer) -> (String, &[u8]) {
 }
 
 /// The library's image against what it should be.
-pub fn between_images(found: &[u8], expected: &[u8], arrangement: u32) -> Option<String> {
+pub fn between_images(found: &[u8], expected: &[u8], numbers: Numbers) -> Option<String> {
     let at = first_difference(found, expected)?;
-    let place = sector_around(expected, arrangement, at);
+    let place = sector_around(expected, numbers, at).unwrap_or_default();
     Some(format!(
         "byte {at} of the image{place}: {}",
         both(found[at], expected[at])
@@ -62,22 +63,28 @@ fn both(found: u8, expected: u8) -> String {
 }
 
 /// Which byte of which sector stands here; nothing where there is no telling.
-fn sector_around(image: &[u8], arrangement: u32, at: usize) -> String {
-    let (track, offset) = ((at / 2560) as u32, at % 256);
+fn sector_around(image: &[u8], numbers: Numbers, at: usize) -> Option<String> {
+    let kind = numbers.kind()?;
+    let (sectors, arrangement) = (kind.sectors(), kind.arrangement());
+    let (track, offset) = ((at / kind.track_bytes()) as u32, at % 256);
     let view = (at - offset + 2) as u32;
-    (1..=10)
-        .find(|&sector| reference::view_start(image, arrangement, track, sector) == view)
-        .map_or_else(String::new, |sector| {
-            format!(" (byte {offset} of {track}/{sector})")
-        })
+    let starts_here =
+        |sector: &u32| reference::view_start(image, sectors, arrangement, track, *sector) == view;
+    let sector = (1..=sectors).find(starts_here)?;
+    Some(format!(" (byte {offset} of {track}/{sector})"))
 }
 
 /// A call with its arguments, long ones shortened.
-pub fn describe(command: &Command, arrangement: u32) -> String {
-    format!("{}, stated {arrangement}", without_arrangement(command))
+pub fn describe(command: &Command, numbers: Numbers) -> String {
+    let Numbers {
+        sectors,
+        arrangement,
+    } = numbers;
+    let call = without_numbers(command);
+    format!("{call}, stated {sectors} sectors, arrangement {arrangement}")
 }
 
-fn without_arrangement(command: &Command) -> String {
+fn without_numbers(command: &Command) -> String {
     match command {
         Command::Check => "check".to_string(),
         Command::List { buffer } => format!("list, buffer of {} bytes", buffer.length),
@@ -120,21 +127,27 @@ fn typed(name: &[u8]) -> String {
 #[cfg(test)]
 mod tests {
     use super::*;
-    use crate::arrangement::{MOVED, PLAIN};
+    use crate::kind::Kind;
     use reference::Listed;
 
     #[test]
     fn the_first_differing_byte_is_named() {
-        let image = [0; 5120];
-        assert_eq!(between_images(&image, &image, PLAIN), None);
+        let image = [0; 23_040];
+        let numbers = Kind::Ten.numbers();
+        assert_eq!(between_images(&image, &image, numbers), None);
         let mut other = image;
         other[2560 + 256 + 7] = 9;
-        for (arrangement, place) in [
-            (PLAIN, " (byte 7 of 1/2)"),
-            (MOVED, " (byte 7 of 1/4)"),
-            (2, ""),
+        let no_kind = Numbers {
+            arrangement: 2,
+            ..numbers
+        };
+        for (numbers, place) in [
+            (Kind::Ten.numbers(), " (byte 7 of 1/2)"),
+            (Kind::Moved.numbers(), " (byte 7 of 1/4)"),
+            (Kind::Nine.numbers(), " (byte 7 of 1/3)"),
+            (no_kind, ""),
         ] {
-            let text = between_images(&other, &image, arrangement);
+            let text = between_images(&other, &image, numbers);
             let expected = format!("byte 2823 of the image{place}: library 09, expected 00");
             assert_eq!(text, Some(expected));
         }
@@ -153,6 +166,9 @@ mod tests {
         let command = Command::Delete {
             name: b"A\0'".to_vec(),
         };
-        assert_eq!(describe(&command, 1), r"delete 'A\x00\'', stated 1");
+        assert_eq!(
+            describe(&command, Kind::Moved.numbers()),
+            r"delete 'A\x00\'', stated 10 sectors, arrangement 1"
+        );
     }
 }

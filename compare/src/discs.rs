@@ -1,63 +1,91 @@
-//! Starting images beside those of the second program's own generators. All
-//! are plain; who wants another arrangement gives them one.
+//! Starting images of any kind beside those of the second program's own
+//! generators.
 
-use crate::arrangement::PLAIN;
+use crate::kind::{Kind, Numbers};
 use reference::generate::{capacity, damage, fresh_name, sound_disc_of, Random};
 
-const TRACK_BYTES: usize = 2560;
 const MOST_TRACKS: usize = 80;
 /// A save's refusal where the directory would have to grow and cannot.
 const NO_ROOM: u32 = 8;
 const FREE_POINTER: usize = 0x10;
 const FREE_COUNT: usize = 0x14;
-/// 0/4, the directory sector of a blank disc.
-const BLANK_DIRECTORY: usize = 3 * 256;
 
 /// Mostly few, so that many calls take little time; one image in `chances` has
 /// more than 25, and as many have more than 5.
-fn track_count(random: &mut Random, chances: usize) -> usize {
+fn track_count(random: &mut Random, kind: Kind, chances: usize) -> usize {
     match random.below(chances) {
         0 if random.one_in(3) => MOST_TRACKS,
         0 => random.between(26, MOST_TRACKS),
+        1 if random.one_in(2) => tracks_fitting_both(random, kind),
         1 => random.between(6, 25),
         _ => random.between(1, 5),
     }
 }
 
-pub fn sound(random: &mut Random) -> Vec<u8> {
-    let tracks = track_count(random, 30);
-    sound_disc_of(random, tracks, PLAIN)
+/// 23,040 bytes are 9 tracks of ten sectors and 10 tracks of nine; so are
+/// multiples of them.
+fn tracks_fitting_both(random: &mut Random, kind: Kind) -> usize {
+    let multiple = match random.below(8) {
+        0 => random.between(3, 8),
+        _ => random.between(1, 2),
+    };
+    multiple * kind.other_number(random).sectors() as usize
+}
+
+pub fn sound(random: &mut Random, kind: Kind) -> Vec<u8> {
+    let tracks = track_count(random, kind, 30);
+    sound_disc_of(random, tracks, kind.sectors(), kind.arrangement())
 }
 
 /// Commands on these are mostly refused at once, so there are more large ones.
-pub fn damaged(random: &mut Random) -> Vec<u8> {
-    let tracks = track_count(random, 6);
-    let mut image = sound_disc_of(random, tracks, PLAIN);
-    damage(random, &mut image, PLAIN);
+pub fn damaged(random: &mut Random, kind: Kind) -> Vec<u8> {
+    let tracks = track_count(random, kind, 6);
+    let (sectors, arrangement) = (kind.sectors(), kind.arrangement());
+    let mut image = sound_disc_of(random, tracks, sectors, arrangement);
+    damage(random, &mut image, sectors, arrangement);
     image
 }
 
-pub fn blank(random: &mut Random, tracks: usize) -> Vec<u8> {
-    let mut image = vec![random.byte(); tracks * TRACK_BYTES];
-    assert_eq!(reference::blank(&mut image, PLAIN, b"COMPARE"), 0);
+pub fn blank(random: &mut Random, kind: Kind, tracks: usize) -> Vec<u8> {
+    let mut image = vec![random.byte(); tracks * kind.track_bytes()];
+    let number = reference::blank(&mut image, kind.sectors(), kind.arrangement(), b"COMPARE");
+    assert_eq!(number, 0);
     image
 }
 
 /// A blank disc with as many tracks as there are.
-pub fn largest(random: &mut Random) -> Vec<u8> {
-    blank(random, MOST_TRACKS)
+pub fn largest(random: &mut Random, kind: Kind) -> Vec<u8> {
+    blank(random, kind, MOST_TRACKS)
+}
+
+/// A sound disc of the other number of sectors, as long as one of this kind:
+/// only the check can tell.
+pub fn misstated(random: &mut Random, kind: Kind) -> Vec<u8> {
+    let other = kind.other_number(random);
+    let tracks = tracks_fitting_both(random, other);
+    if random.one_in(4) {
+        blank(random, other, tracks)
+    } else {
+        sound_disc_of(random, tracks, other.sectors(), other.arrangement())
+    }
+}
+
+/// Saves a sheet on page 0 by the second program.
+pub fn save(image: &mut [u8], kind: Kind, name: &[u8], sheet: &[u8]) -> u32 {
+    let (sectors, arrangement) = (kind.sectors(), kind.arrangement());
+    reference::save(image, sectors, arrangement, name, 0, 0, 0, sheet)
 }
 
 /// Files of any length on a disc with at most three free sectors left.
-pub fn nearly_full(random: &mut Random) -> Vec<u8> {
-    let tracks = track_count(random, 30);
-    let mut image = blank(random, tracks);
+pub fn nearly_full(random: &mut Random, kind: Kind) -> Vec<u8> {
+    let tracks = track_count(random, kind, 30);
+    let mut image = blank(random, kind, tracks);
     let left = random.below(4);
     while free_count(&image) > left {
         let most = (free_count(&image) - left).min(200);
         let length = capacity(random.between(1, most)) - random.below(200);
         let (name, sheet) = (fresh_name(random), random.bytes(length));
-        if reference::save(&mut image, PLAIN, &name, 0, 0, 0, &sheet) == NO_ROOM {
+        if save(&mut image, kind, &name, &sheet) == NO_ROOM {
             break;
         }
     }
@@ -65,10 +93,10 @@ pub fn nearly_full(random: &mut Random) -> Vec<u8> {
 }
 
 /// Files of one or two sectors, about as many as fill some directory sectors.
-pub fn small_files(random: &mut Random) -> Vec<u8> {
+pub fn small_files(random: &mut Random, kind: Kind) -> Vec<u8> {
     let many = random.one_in(200);
     let tracks = if many { 40 } else { random.between(2, 5) };
-    let mut image = blank(random, tracks);
+    let mut image = blank(random, kind, tracks);
     let wanted = if many {
         300
     } else {
@@ -77,26 +105,26 @@ pub fn small_files(random: &mut Random) -> Vec<u8> {
     for number in 0..wanted {
         let name = format!("F{number}");
         let sheet = vec![random.byte(); random.pick(&[1, 200, 245])];
-        reference::save(&mut image, PLAIN, name.as_bytes(), 0, 0, 0, &sheet);
+        save(&mut image, kind, name.as_bytes(), &sheet);
     }
     image
 }
 
 /// A blank disc whose directory has taken free sectors, often all of them.
-pub fn wide_directory(random: &mut Random) -> Vec<u8> {
-    let tracks = track_count(random, 30);
-    let mut image = blank(random, tracks);
+pub fn wide_directory(random: &mut Random, kind: Kind) -> Vec<u8> {
+    let tracks = track_count(random, kind, 30);
+    let mut image = blank(random, kind, tracks);
     let free = free_count(&image);
     let taken = if random.one_in(2) {
         free
     } else {
         random.between(1, free)
     };
-    let mut last = BLANK_DIRECTORY;
+    let mut last = blank_directory(&image, kind);
     for _ in 0..taken {
-        let (sector, track) = (image[FREE_POINTER], image[FREE_POINTER + 1]);
-        image[last..last + 2].copy_from_slice(&[track, sector]);
-        last = (usize::from(track) * 10 + usize::from(sector) - 1) * 256;
+        let pointer = [image[FREE_POINTER], image[FREE_POINTER + 1]];
+        image[last..last + 2].copy_from_slice(&[pointer[1], pointer[0]]);
+        last = place(&image, kind, pointer);
         let next = [image[last + 1], image[last]];
         image[FREE_POINTER..FREE_POINTER + 2].copy_from_slice(&next);
         image[last..last + 2].fill(0);
@@ -107,25 +135,50 @@ pub fn wide_directory(random: &mut Random) -> Vec<u8> {
 }
 
 /// Bytes that no program has written, of a right or of any length.
-pub fn any_bytes(random: &mut Random) -> Vec<u8> {
+pub fn any_bytes(random: &mut Random, kind: Kind) -> Vec<u8> {
     let tracks = random.between(1, 3);
     let length = match random.below(4) {
-        0 => random.below(3 * TRACK_BYTES),
-        _ => tracks * TRACK_BYTES,
+        0 => random.below(3 * kind.track_bytes()),
+        _ => tracks * kind.track_bytes(),
     };
     let mut image = match random.below(4) {
         0 => vec![random.pick(&[0, 1, 0xFF]); length],
         _ => random.bytes(length),
     };
-    if random.one_in(2) && length >= TRACK_BYTES {
+    if random.one_in(2) && length >= kind.track_bytes() {
         // A directory pointer on the disc, so that more than it is looked at.
-        image[0x12] = random.between(2, 10) as u8;
+        image[0x12] = random.between(2, kind.sectors() as usize) as u8;
         image[0x13] = 0;
     }
     image
 }
 
-/// Of an image in either arrangement, since 0/1 comes first in both.
+/// Makes an image as long as whole tracks of the number of sectors stated, so
+/// that nothing but this number is wrong. Right numbers leave it as it is, and
+/// so do those of which no disc is long enough.
+pub fn fit_wrong_number(image: &mut Vec<u8>, numbers: Numbers) {
+    const MOST_SECTORS: usize = 20;
+    let sectors = numbers.sectors as usize;
+    if numbers.kind().is_none() && (1..=MOST_SECTORS).contains(&sectors) {
+        let tracks = (image.len() / 256 / sectors).max(1);
+        image.resize(tracks * sectors * 256, 0);
+    }
+}
+
+/// Where a sector begins in an image, by a pointer, which has its sector first.
+pub fn place(image: &[u8], kind: Kind, [sector, track]: [u8; 2]) -> usize {
+    let (track, sector) = (u32::from(track), u32::from(sector));
+    let view = reference::view_start(image, kind.sectors(), kind.arrangement(), track, sector);
+    assert!(view > 0, "{track}/{sector} is on the disc");
+    view as usize - 2
+}
+
+/// 0/4 is the directory sector of a blank disc.
+pub fn blank_directory(image: &[u8], kind: Kind) -> usize {
+    place(image, kind, [4, 0])
+}
+
+/// Of an image of any kind, since 0/1 comes first in all.
 pub fn free_count(image: &[u8]) -> usize {
     usize::from(u16::from_le_bytes([
         image[FREE_COUNT],
@@ -136,30 +189,60 @@ pub fn free_count(image: &[u8]) -> usize {
 #[cfg(test)]
 mod tests {
     use super::*;
-
-    fn is_sound(image: &[u8]) -> bool {
-        let checked = reference::check(image, PLAIN);
-        (checked.number, checked.rule) == (0, 0)
-    }
+    use crate::met::{is_sound, Met};
 
     #[test]
     fn starting_discs_are_sound() {
         let mut random = Random::new(4);
-        for _ in 0..100 {
-            assert!(is_sound(&sound(&mut random)));
-            assert!(is_sound(&nearly_full(&mut random)));
-            assert!(is_sound(&small_files(&mut random)));
-            assert!(is_sound(&wide_directory(&mut random)));
+        for kind in Kind::ALL {
+            for _ in 0..50 {
+                assert!(is_sound(&sound(&mut random, kind), kind));
+                assert!(is_sound(&nearly_full(&mut random, kind), kind));
+                assert!(is_sound(&small_files(&mut random, kind), kind));
+                assert!(is_sound(&wide_directory(&mut random, kind), kind));
+            }
         }
     }
 
     #[test]
     fn nearly_full_discs_have_few_free_sectors() {
         let mut random = Random::new(5);
-        let free: Vec<usize> = (0..60)
-            .map(|_| free_count(&nearly_full(&mut random)))
-            .collect();
-        assert!(free.iter().all(|&count| count <= 4));
-        assert!(free.contains(&0));
+        for kind in Kind::ALL {
+            let free: Vec<usize> = (0..60)
+                .map(|_| free_count(&nearly_full(&mut random, kind)))
+                .collect();
+            assert!(free.iter().all(|&count| count <= 4));
+            assert!(free.contains(&0));
+        }
+    }
+
+    #[test]
+    fn misstated_discs_are_sound_with_the_other_number() {
+        let mut random = Random::new(6);
+        for kind in Kind::ALL {
+            for _ in 0..30 {
+                let image = misstated(&mut random, kind);
+                assert!(Met::by(&image, kind.numbers()).misstated);
+            }
+        }
+    }
+
+    #[test]
+    fn images_are_made_to_fit_wrong_numbers_alone() {
+        let fitted = |sectors, arrangement| {
+            let mut image = vec![0; 2560];
+            let numbers = Numbers {
+                sectors,
+                arrangement,
+            };
+            fit_wrong_number(&mut image, numbers);
+            image.len()
+        };
+        assert_eq!(fitted(8, 0), 2048);
+        assert_eq!(fitted(11, 0), 11 * 256);
+        assert_eq!(fitted(3, 1), 2304);
+        for (sectors, arrangement) in [(10, 0), (9, 0), (0, 0), (266, 0), (u32::MAX, 1)] {
+            assert_eq!(fitted(sectors, arrangement), 2560);
+        }
     }
 }

@@ -31,10 +31,12 @@ struct CReading {
 }
 
 extern "C" {
-    fn tandos_check(image: *const u8, image_len: usize, arrangement: u32) -> CChecked;
+    fn tandos_check(image: *const u8, image_len: usize, sectors: u32, arrangement: u32)
+        -> CChecked;
     fn tandos_list(
         image: *const u8,
         image_len: usize,
+        sectors: u32,
         arrangement: u32,
         buffer: *mut u8,
         buffer_len: usize,
@@ -42,6 +44,7 @@ extern "C" {
     fn tandos_read(
         image: *const u8,
         image_len: usize,
+        sectors: u32,
         arrangement: u32,
         name: *const u8,
         name_len: usize,
@@ -51,6 +54,7 @@ extern "C" {
     fn tandos_save(
         image: *mut u8,
         image_len: usize,
+        sectors: u32,
         arrangement: u32,
         name: *const u8,
         name_len: usize,
@@ -63,6 +67,7 @@ extern "C" {
     fn tandos_delete(
         image: *mut u8,
         image_len: usize,
+        sectors: u32,
         arrangement: u32,
         name: *const u8,
         name_len: usize,
@@ -70,6 +75,7 @@ extern "C" {
     fn tandos_rename(
         image: *mut u8,
         image_len: usize,
+        sectors: u32,
         arrangement: u32,
         old_name: *const u8,
         old_len: usize,
@@ -79,6 +85,7 @@ extern "C" {
     fn tandos_protect(
         image: *mut u8,
         image_len: usize,
+        sectors: u32,
         arrangement: u32,
         name: *const u8,
         name_len: usize,
@@ -87,6 +94,7 @@ extern "C" {
     fn tandos_blank(
         image: *mut u8,
         image_len: usize,
+        sectors: u32,
         arrangement: u32,
         name: *const u8,
         name_len: usize,
@@ -94,6 +102,7 @@ extern "C" {
     fn tandos_view_number(
         image: *const u8,
         image_len: usize,
+        sectors: u32,
         arrangement: u32,
         track: u32,
         sector: u32,
@@ -101,34 +110,51 @@ extern "C" {
     fn tandos_view_start(
         image: *const u8,
         image_len: usize,
+        sectors: u32,
         arrangement: u32,
         track: u32,
         sector: u32,
     ) -> u32;
 }
 
-pub fn check(image: &[u8], arrangement: u32) -> Checked {
-    let answer = unsafe { tandos_check(image.as_ptr(), image.len(), arrangement) };
+pub fn check(image: &[u8], sectors: u32, arrangement: u32) -> Checked {
+    let answer = unsafe { tandos_check(image.as_ptr(), image.len(), sectors, arrangement) };
     Checked {
         number: answer.number,
         rule: answer.rule,
     }
 }
 
-pub fn list(image: &[u8], arrangement: u32, buffer: &mut [u8]) -> Listed {
+pub fn list(image: &[u8], sectors: u32, arrangement: u32, buffer: &mut [u8]) -> Listed {
     let (lent, lent_len) = (buffer.as_mut_ptr(), buffer.len());
-    let answer = unsafe { tandos_list(image.as_ptr(), image.len(), arrangement, lent, lent_len) };
+    let answer = unsafe {
+        tandos_list(
+            image.as_ptr(),
+            image.len(),
+            sectors,
+            arrangement,
+            lent,
+            lent_len,
+        )
+    };
     Listed {
         number: answer.number,
         length: answer.length,
     }
 }
 
-pub fn read(image: &[u8], arrangement: u32, name: &[u8], buffer: &mut [u8]) -> Reading {
+pub fn read(
+    image: &[u8],
+    sectors: u32,
+    arrangement: u32,
+    name: &[u8],
+    buffer: &mut [u8],
+) -> Reading {
     let answer = unsafe {
         tandos_read(
             image.as_ptr(),
             image.len(),
+            sectors,
             arrangement,
             name.as_ptr(),
             name.len(),
@@ -146,8 +172,10 @@ pub fn read(image: &[u8], arrangement: u32, name: &[u8], buffer: &mut [u8]) -> R
     }
 }
 
+#[allow(clippy::too_many_arguments)]
 pub fn save(
     image: &mut [u8],
+    sectors: u32,
     arrangement: u32,
     name: &[u8],
     page: u32,
@@ -159,6 +187,7 @@ pub fn save(
         tandos_save(
             image.as_mut_ptr(),
             image.len(),
+            sectors,
             arrangement,
             name.as_ptr(),
             name.len(),
@@ -171,11 +200,12 @@ pub fn save(
     }
 }
 
-pub fn delete(image: &mut [u8], arrangement: u32, name: &[u8]) -> u32 {
+pub fn delete(image: &mut [u8], sectors: u32, arrangement: u32, name: &[u8]) -> u32 {
     unsafe {
         tandos_delete(
             image.as_mut_ptr(),
             image.len(),
+            sectors,
             arrangement,
             name.as_ptr(),
             name.len(),
@@ -183,11 +213,12 @@ pub fn delete(image: &mut [u8], arrangement: u32, name: &[u8]) -> u32 {
     }
 }
 
-pub fn rename(image: &mut [u8], arrangement: u32, old: &[u8], new: &[u8]) -> u32 {
+pub fn rename(image: &mut [u8], sectors: u32, arrangement: u32, old: &[u8], new: &[u8]) -> u32 {
     unsafe {
         tandos_rename(
             image.as_mut_ptr(),
             image.len(),
+            sectors,
             arrangement,
             old.as_ptr(),
             old.len(),
@@ -197,11 +228,12 @@ pub fn rename(image: &mut [u8], arrangement: u32, old: &[u8], new: &[u8]) -> u32
     }
 }
 
-pub fn protect(image: &mut [u8], arrangement: u32, name: &[u8], on: u32) -> u32 {
+pub fn protect(image: &mut [u8], sectors: u32, arrangement: u32, name: &[u8], on: u32) -> u32 {
     unsafe {
         tandos_protect(
             image.as_mut_ptr(),
             image.len(),
+            sectors,
             arrangement,
             name.as_ptr(),
             name.len(),
@@ -210,11 +242,12 @@ pub fn protect(image: &mut [u8], arrangement: u32, name: &[u8], on: u32) -> u32 
     }
 }
 
-pub fn blank(image: &mut [u8], arrangement: u32, name: &[u8]) -> u32 {
+pub fn blank(image: &mut [u8], sectors: u32, arrangement: u32, name: &[u8]) -> u32 {
     unsafe {
         tandos_blank(
             image.as_mut_ptr(),
             image.len(),
+            sectors,
             arrangement,
             name.as_ptr(),
             name.len(),
@@ -222,10 +255,28 @@ pub fn blank(image: &mut [u8], arrangement: u32, name: &[u8]) -> u32 {
     }
 }
 
-pub fn view_number(image: &[u8], arrangement: u32, track: u32, sector: u32) -> u32 {
-    unsafe { tandos_view_number(image.as_ptr(), image.len(), arrangement, track, sector) }
+pub fn view_number(image: &[u8], sectors: u32, arrangement: u32, track: u32, sector: u32) -> u32 {
+    unsafe {
+        tandos_view_number(
+            image.as_ptr(),
+            image.len(),
+            sectors,
+            arrangement,
+            track,
+            sector,
+        )
+    }
 }
 
-pub fn view_start(image: &[u8], arrangement: u32, track: u32, sector: u32) -> u32 {
-    unsafe { tandos_view_start(image.as_ptr(), image.len(), arrangement, track, sector) }
+pub fn view_start(image: &[u8], sectors: u32, arrangement: u32, track: u32, sector: u32) -> u32 {
+    unsafe {
+        tandos_view_start(
+            image.as_ptr(),
+            image.len(),
+            sectors,
+            arrangement,
+            track,
+            sector,
+        )
+    }
 }

@@ -3,15 +3,16 @@
 
 #![deny(unsafe_code)]
 
-mod arrangement;
 mod calls;
 pub mod count;
 mod difference;
 mod discs;
 pub mod ffi;
+pub mod kind;
 mod lend;
 mod library;
 pub mod load;
+mod met;
 pub mod options;
 mod pair;
 pub mod run;

@@ -2,6 +2,7 @@
 //! bytes.
 
 use crate::ffi;
+use crate::kind::Numbers;
 use crate::lend::Lent;
 use reference::command::{Answer, Command};
 use reference::generate::Random;
@@ -37,15 +38,23 @@ impl Library {
 }
 
 impl Program for Library {
-    fn read(&self, image: &[u8], arrangement: u32, name: &[u8], buffer: &mut [u8]) -> Reading {
+    fn read(
+        &self,
+        image: &[u8],
+        sectors: u32,
+        arrangement: u32,
+        name: &[u8],
+        buffer: &mut [u8],
+    ) -> Reading {
         self.guarded("buffer", buffer, |lent| {
-            ffi::read(image, arrangement, name, lent)
+            ffi::read(image, sectors, arrangement, name, lent)
         })
     }
 
     fn save(
         &self,
         image: &mut [u8],
+        sectors: u32,
         arrangement: u32,
         name: &[u8],
         page: u32,
@@ -54,7 +63,16 @@ impl Program for Library {
         sheet: &[u8],
     ) -> u32 {
         self.guarded("image", image, |lent| {
-            ffi::save(lent, arrangement, name, page, start, transfer, sheet)
+            ffi::save(
+                lent,
+                sectors,
+                arrangement,
+                name,
+                page,
+                start,
+                transfer,
+                sheet,
+            )
         })
     }
 }
@@ -65,14 +83,14 @@ pub struct Outcome {
     pub stray_write: Option<String>,
 }
 
-pub fn run(random: &mut Random, command: &Command, arrangement: u32, image: &mut Lent) -> Outcome {
+pub fn run(random: &mut Random, command: &Command, numbers: Numbers, image: &mut Lent) -> Outcome {
     let texts = texts(command);
     let mut lent = Arguments {
         first: Lent::new(random, texts.0),
         second: Lent::new(random, texts.1),
         buffer: Lent::new(random, &buffer(command)),
     };
-    let answer = call(command, image.bytes_mut(), arrangement, &mut lent);
+    let answer = call(command, image.bytes_mut(), numbers, &mut lent);
     let stray_write = beside("buffer", &lent.buffer)
         .or_else(|| in_or_beside("name", &lent.first, texts.0))
         .or_else(|| in_or_beside("sheet or new name", &lent.second, texts.1));
@@ -109,45 +127,68 @@ fn buffer(command: &Command) -> Vec<u8> {
     }
 }
 
-fn call(command: &Command, image: &mut [u8], arrangement: u32, lent: &mut Arguments) -> Answer {
-    let (first, second) = (lent.first.bytes(), lent.second.bytes());
+fn call(command: &Command, image: &mut [u8], numbers: Numbers, lent: &mut Arguments) -> Answer {
+    let Numbers {
+        sectors,
+        arrangement,
+    } = numbers;
+    let name = lent.first.bytes();
     let buffer = lent.buffer.bytes_mut();
     match command {
-        Command::Check => Answer::Checked(ffi::check(image, arrangement)),
-        Command::List { .. } => {
-            Answer::Listed(ffi::list(image, arrangement, buffer), buffer.to_vec())
-        }
-        Command::Read { .. } => Answer::Read(
-            ffi::read(image, arrangement, first, buffer),
+        Command::Check => Answer::Checked(ffi::check(image, sectors, arrangement)),
+        Command::List { .. } => Answer::Listed(
+            ffi::list(image, sectors, arrangement, buffer),
             buffer.to_vec(),
         ),
+        Command::Read { .. } => Answer::Read(
+            ffi::read(image, sectors, arrangement, name, buffer),
+            buffer.to_vec(),
+        ),
+        Command::View { track, sector } => viewed(image, numbers, *track, *sector),
+        writing => Answer::Number(call_writing(writing, image, numbers, lent)),
+    }
+}
+
+/// The commands that may change the image; the others leave it and give 0.
+fn call_writing(command: &Command, image: &mut [u8], numbers: Numbers, lent: &Arguments) -> u32 {
+    let Numbers {
+        sectors,
+        arrangement,
+    } = numbers;
+    let (first, second) = (lent.first.bytes(), lent.second.bytes());
+    match command {
         Command::Save {
             page,
             start,
             transfer,
             ..
-        } => Answer::Number(ffi::save(
+        } => ffi::save(
             image,
+            sectors,
             arrangement,
             first,
             *page,
             *start,
             *transfer,
             second,
-        )),
-        Command::Delete { .. } => Answer::Number(ffi::delete(image, arrangement, first)),
-        Command::Rename { .. } => Answer::Number(ffi::rename(image, arrangement, first, second)),
-        Command::Protect { on, .. } => Answer::Number(ffi::protect(image, arrangement, first, *on)),
-        Command::Blank { .. } => Answer::Number(ffi::blank(image, arrangement, first)),
-        Command::View { track, sector } => viewed(image, arrangement, *track, *sector),
+        ),
+        Command::Delete { .. } => ffi::delete(image, sectors, arrangement, first),
+        Command::Rename { .. } => ffi::rename(image, sectors, arrangement, first, second),
+        Command::Protect { on, .. } => ffi::protect(image, sectors, arrangement, first, *on),
+        Command::Blank { .. } => ffi::blank(image, sectors, arrangement, first),
+        Command::Check | Command::List { .. } | Command::Read { .. } | Command::View { .. } => 0,
     }
 }
 
 /// The part of the image itself exists in the library's own language alone;
 /// here it is what lies at the start that the library gives.
-fn viewed(image: &[u8], arrangement: u32, track: u32, sector: u32) -> Answer {
-    let number = ffi::view_number(image, arrangement, track, sector);
-    let start = ffi::view_start(image, arrangement, track, sector);
+fn viewed(image: &[u8], numbers: Numbers, track: u32, sector: u32) -> Answer {
+    let Numbers {
+        sectors,
+        arrangement,
+    } = numbers;
+    let number = ffi::view_number(image, sectors, arrangement, track, sector);
+    let start = ffi::view_start(image, sectors, arrangement, track, sector);
     let at = start as usize;
     let shown = image.get(at..at + VIEW_BYTES).filter(|_| number == 0);
     Answer::Viewed {

@@ -1,15 +1,15 @@
-//! Many commands on one image of each arrangement: what shows only after a long
+//! Many commands on one image of each kind: what shows only after a long
 //! history, such as a free chain that has passed every sector in many orders.
 
-use crate::arrangement::{arranged, Stated, MOVED, PLAIN};
-use crate::calls::Call;
 use crate::difference::describe;
 use crate::discs;
+use crate::kind::{Kind, Stated};
+use crate::met::Met;
 use crate::pair::Pair;
-use crate::run::{small_file_command, Draw};
+use crate::run::{any_command, small_file_command, Draw};
 use crate::tally::Tally;
 use reference::command::Command;
-use reference::generate::{command, fresh_name, standing_names, Random};
+use reference::generate::{fresh_name, standing_names, Random};
 use std::fmt;
 
 /// The makers' usual disc.
@@ -27,15 +27,15 @@ const BLANKS_LEFT_OUT: usize = 60;
 pub struct Load {
     seed: u64,
     random: Random,
-    /// The plain one and the moved one, which take turns.
-    images: [Image; 2],
+    /// One of each of `Kind::ALL`, which take turns.
+    images: [Image; 3],
     commands: u64,
 }
 
 impl Load {
     pub fn new(seed: u64) -> Load {
         let mut random = Random::new(seed);
-        let images = [PLAIN, MOVED].map(|arrangement| Image::new(&mut random, arrangement));
+        let images = Kind::ALL.map(|kind| Image::new(&mut random, kind));
         Load {
             seed,
             random,
@@ -52,7 +52,8 @@ impl Load {
     pub fn run(&mut self, commands: u64) -> Result<(), String> {
         for number in 0..commands {
             self.commands += 1;
-            let image = &mut self.images[(number % 2) as usize];
+            let turn = number % self.images.len() as u64;
+            let image = &mut self.images[turn as usize];
             image.step(&mut self.random).map_err(|text| {
                 let seed = self.seed;
                 format!("FAILED: seed {seed}, command {number}: {text}")
@@ -64,6 +65,7 @@ impl Load {
 
 /// One image and its long history.
 struct Image {
+    kind: Kind,
     pair: Pair,
     tally: Tally,
     commands: u64,
@@ -73,11 +75,12 @@ struct Image {
 }
 
 impl Image {
-    fn new(random: &mut Random, arrangement: u32) -> Image {
-        let image = arranged(discs::blank(random, TRACKS), arrangement);
+    fn new(random: &mut Random, kind: Kind) -> Image {
+        let image = discs::blank(random, kind, TRACKS);
         Image {
-            pair: Pair::new(random, image, arrangement),
-            tally: Tally::default(),
+            kind,
+            pair: Pair::new(random, image, kind.numbers()),
+            tally: Tally::new(Stated::Kind(kind)),
             commands: 0,
             most_files: 0,
             most_directory: 0,
@@ -89,19 +92,19 @@ impl Image {
         let command = self.draw(random);
         self.commands += 1;
         self.run(random, &command).map_err(|text| {
-            let call = describe(&command, self.pair.arrangement());
+            let call = describe(&command, self.kind.numbers());
             format!("{call}\n  {text}")
         })
     }
 
     fn draw(&self, random: &mut Random) -> Command {
         let draw: Draw = match self.commands / PHASE % 3 {
-            0 => command,
+            0 => any_command,
             1 => small_file_command,
             _ => clearing_command,
         };
         loop {
-            let drawn = draw(random, self.pair.image(), self.pair.arrangement());
+            let drawn = draw(random, self.pair.image(), self.kind);
             let is_blank = matches!(drawn, Command::Blank { .. });
             if !is_blank || random.one_in(BLANKS_LEFT_OUT) {
                 return drawn;
@@ -110,9 +113,9 @@ impl Image {
     }
 
     fn run(&mut self, random: &mut Random, command: &Command) -> Result<(), String> {
+        let met = Met::by(self.pair.image(), self.kind.numbers());
         let answer = self.pair.step(random, command)?;
-        self.tally
-            .call(Call::of(command), &answer, self.pair.image());
+        self.tally.call(command, &answer, met);
         self.observe();
         let fault = if self.commands % WHOLE_MOMENT_EVERY == 0 {
             self.tally.moments += 1;
@@ -132,8 +135,8 @@ impl Image {
 }
 
 /// Mostly lifts the protection of a standing file or deletes it.
-fn clearing_command(random: &mut Random, image: &[u8], arrangement: u32) -> Command {
-    let standing = standing_names(image, arrangement);
+fn clearing_command(random: &mut Random, image: &[u8], kind: Kind) -> Command {
+    let standing = standing_names(image, kind.sectors(), kind.arrangement());
     let name = match standing.len() {
         0 => fresh_name(random),
         count => standing[random.below(count)].clone(),
@@ -141,15 +144,14 @@ fn clearing_command(random: &mut Random, image: &[u8], arrangement: u32) -> Comm
     match random.below(4) {
         0 => Command::Protect { name, on: 0 },
         1 | 2 => Command::Delete { name },
-        _ => command(random, image, arrangement),
+        _ => any_command(random, image, kind),
     }
 }
 
 impl fmt::Display for Load {
     fn fmt(&self, out: &mut fmt::Formatter<'_>) -> fmt::Result {
-        let [plain, moved] = &self.images;
-        writeln!(out, "{plain}")?;
-        write!(out, "{moved}")
+        let [ten, moved, nine] = &self.images;
+        write!(out, "{ten}\n{moved}\n{nine}")
     }
 }
 
@@ -158,8 +160,8 @@ impl fmt::Display for Image {
         self.tally.write_answers(out)?;
         writeln!(
             out,
-            "one {} image of {TRACKS} tracks: at most {} files and {} directory sectors",
-            Stated::by(self.pair.arrangement()).name(),
+            "one image, {}, of {TRACKS} tracks: at most {} files and {} directory sectors",
+            self.kind.name(),
             self.most_files,
             self.most_directory
         )?;

@@ -3,7 +3,7 @@
 pub const USAGE: &str = "usage: compare [--seed S] [--calls N] [--run R] [--load N]";
 
 const DEFAULT_SEED: u64 = 650_065;
-const DEFAULT_CALLS: u64 = 20_000;
+const DEFAULT_CALLS: u64 = 40_000;
 
 #[derive(Debug, Clone, Copy, PartialEq, Eq)]
 pub struct Options {
@@ -11,7 +11,8 @@ pub struct Options {
     pub calls: u64,
     /// Only this run, with each of its commands printed.
     pub run: Option<u64>,
-    /// So many commands on two images, in place of the comparison's runs.
+    /// So many commands on one image of each kind, in place of the comparison's
+    /// runs.
     pub load: Option<u64>,
 }
 

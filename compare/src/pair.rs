@@ -1,6 +1,7 @@
 //! One image handed to both programs, and the history of its run.
 
 use crate::difference::{between_answers, between_images};
+use crate::kind::Numbers;
 use crate::lend::Lent;
 use crate::library::{self, beside, Library};
 use reference::command::{Answer, Command};
@@ -11,20 +12,20 @@ pub struct Pair {
     library: Lent,
     second: Vec<u8>,
     /// What every call of the run states.
-    arrangement: u32,
+    numbers: Numbers,
     /// None as long as no moment of the run was a start: the first image is
-    /// not sound, and no blank disc was made since; or the run states neither
-    /// arrangement.
+    /// not sound, and no blank disc was made since; or the run states no kind of
+    /// disc.
     book: Option<Book>,
 }
 
 impl Pair {
-    pub fn new(random: &mut Random, image: Vec<u8>, arrangement: u32) -> Pair {
+    pub fn new(random: &mut Random, image: Vec<u8>, numbers: Numbers) -> Pair {
         Pair {
             library: Lent::new(random, &image),
-            book: Book::start(&image, arrangement),
+            book: book(&image, numbers),
             second: image,
-            arrangement,
+            numbers,
         }
     }
 
@@ -33,14 +34,18 @@ impl Pair {
         &self.second
     }
 
-    pub fn arrangement(&self) -> u32 {
-        self.arrangement
+    pub fn numbers(&self) -> Numbers {
+        self.numbers
     }
 
     /// Runs a command on both programs and gives the answer, or what differs.
     pub fn step(&mut self, random: &mut Random, command: &Command) -> Result<Answer, String> {
-        let expected = command.run(&mut self.second, self.arrangement);
-        let outcome = library::run(random, command, self.arrangement, &mut self.library);
+        let Numbers {
+            sectors,
+            arrangement,
+        } = self.numbers;
+        let expected = command.run(&mut self.second, sectors, arrangement);
+        let outcome = library::run(random, command, self.numbers, &mut self.library);
         let difference = outcome
             .stray_write
             .or_else(|| between_answers(&outcome.answer, &expected))
@@ -56,7 +61,7 @@ impl Pair {
         match &mut self.book {
             Some(book) => book.record(command, accepted),
             None if accepted && matches!(command, Command::Blank { .. }) => {
-                self.book = Book::start(self.library.bytes(), self.arrangement);
+                self.book = book(self.library.bytes(), self.numbers);
             }
             None => {}
         }
@@ -92,6 +97,11 @@ impl Pair {
 
     fn image_difference(&self) -> Option<String> {
         beside("image", &self.library)
-            .or_else(|| between_images(self.library.bytes(), &self.second, self.arrangement))
+            .or_else(|| between_images(self.library.bytes(), &self.second, self.numbers))
     }
+}
+
+/// The history of a run that starts with this image.
+fn book(image: &[u8], numbers: Numbers) -> Option<Book> {
+    Book::start(image, numbers.sectors, numbers.arrangement)
 }

@@ -1,28 +1,34 @@
 //! Runs: an image and a list of commands, each run from its own seed.
 
-use crate::arrangement::{arranged, Stated};
 use crate::calls::{Call, SIZE};
 use crate::count::Counts;
 use crate::difference::describe;
 use crate::discs;
+use crate::kind::{Kind, Numbers, Stated};
+use crate::met::Met;
 use crate::pair::Pair;
 use crate::several::Case;
 use crate::twin::Twin;
 use reference::command::{Buffer, Command};
-use reference::generate::{command, fresh_name, Random};
+use reference::generate::{self, fresh_name, Random};
 
 const MOST_REPORTS: u64 = 10;
 const CASES_IN_A_RUN: usize = 16;
-/// One run in so many states neither arrangement throughout.
-const NEITHER_IN: usize = 12;
-/// One command of a run in so many is called with another number first.
-const ASIDE_IN: usize = 10;
+/// Of so many shapes of runs the first are lists of commands, the rest cases.
+const SHAPES: usize = 35;
+const LISTS: usize = 30;
+/// One run in so many states no kind of disc throughout.
+const NO_KIND_IN: usize = 6;
+/// One image in so many of these has whole tracks of the number stated.
+const FITTED_IN: usize = 3;
+/// One command of a run in so many is called with other numbers first.
+const ASIDE_IN: usize = 8;
 /// One call in so many is made on the other arrangement too.
 const TWIN_IN: usize = 3;
 
-/// How the commands of a run are drawn, with the image before them and its
-/// arrangement in view.
-pub type Draw = fn(&mut Random, &[u8], u32) -> Command;
+/// How the commands of a run are drawn, with the image before them and its kind
+/// in view.
+pub type Draw = fn(&mut Random, &[u8], Kind) -> Command;
 
 pub struct Driver {
     seed: u64,
@@ -36,9 +42,9 @@ struct Run {
     number: u64,
     length: usize,
     image: Vec<u8>,
-    /// Of the image; the calls of the run need not state it.
-    arrangement: u32,
-    stated: Stated,
+    /// For which commands are drawn; the calls of the run need not state it.
+    kind: Kind,
+    numbers: Numbers,
     draw: Draw,
 }
 
@@ -70,24 +76,31 @@ impl Driver {
     pub fn run(&mut self, number: u64) {
         let mixed = Random::new(self.seed ^ number.wrapping_mul(0xD1B5_4A32_D192_ED03)).draw();
         let random = &mut Random::new(mixed);
-        let (image, draw, most): (_, Draw, _) = match random.below(32) {
-            0..=4 => (discs::sound(random), command, 50),
-            5..=6 => (discs::nearly_full(random), command, 40),
-            7..=8 => (discs::small_files(random), small_file_command, 40),
-            9 => (discs::wide_directory(random), command, 20),
-            10 => (discs::largest(random), largest_disc_command, 30),
-            11..=23 => (discs::damaged(random), command, 6),
-            24..=26 => (discs::any_bytes(random), command, 6),
-            _ => return self.cases(random, number),
+        let shape = random.below(SHAPES);
+        if shape >= LISTS {
+            return self.cases(random, number);
+        }
+        let numbers = Stated::draw(random, NO_KIND_IN).numbers(random);
+        let kind = numbers.of_image(random);
+        let (mut image, draw, most): (_, Draw, _) = match shape {
+            0..=4 => (discs::sound(random, kind), any_command, 50),
+            5..=6 => (discs::nearly_full(random, kind), any_command, 40),
+            7..=8 => (discs::small_files(random, kind), small_file_command, 40),
+            9 => (discs::wide_directory(random, kind), any_command, 20),
+            10..=11 => (discs::largest(random, kind), largest_disc_command, 30),
+            12..=13 => (discs::misstated(random, kind), misstated_disc_command, 12),
+            14..=26 => (discs::damaged(random, kind), any_command, 6),
+            _ => (discs::any_bytes(random, kind), any_command, 6),
         };
-        let stated = Stated::draw(random, NEITHER_IN);
-        let arrangement = stated.of_image(random);
+        if random.one_in(FITTED_IN) {
+            discs::fit_wrong_number(&mut image, numbers);
+        }
         let run = Run {
             number,
             length: random.between(2, most),
-            image: arranged(image, arrangement),
-            arrangement,
-            stated,
+            image,
+            kind,
+            numbers,
             draw,
         };
         self.list(random, run);
@@ -96,8 +109,7 @@ impl Driver {
     /// A check, whose moment is that of the start, then drawn commands. The
     /// run ends with the first difference, since the images differ from there.
     fn list(&mut self, random: &mut Random, run: Run) {
-        let stated = run.stated.number(random);
-        let mut pair = Pair::new(random, run.image, stated);
+        let mut pair = Pair::new(random, run.image, run.numbers);
         let mut next = Command::Check;
         for command in 0..run.length {
             let place = Place {
@@ -110,17 +122,17 @@ impl Driver {
             if !self.step(random, &mut pair, &next, None, place) {
                 break;
             }
-            next = (run.draw)(random, pair.image(), run.arrangement);
+            next = (run.draw)(random, pair.image(), run.kind);
         }
     }
 
-    /// The command called with another number than the run's, on a copy: such
-    /// a call is none of the run, whose history goes on without it.
+    /// The command called with other numbers than the run's, on a copy: such a
+    /// call is none of the run, whose history goes on without it.
     fn aside(&mut self, random: &mut Random, pair: &Pair, command: &Command, place: Place) {
-        let of_run = Stated::by(pair.arrangement());
+        let of_run = pair.numbers().stated();
         let stated = of_run.another(random);
-        let number = stated.number(random);
-        let mut copy = Pair::new(random, pair.image().to_vec(), number);
+        let numbers = stated.numbers(random);
+        let mut copy = Pair::new(random, pair.image().to_vec(), numbers);
         if self.step(random, &mut copy, command, None, place) {
             self.counts.of(of_run).aside(stated);
         }
@@ -131,11 +143,11 @@ impl Driver {
         for command in 0..CASES_IN_A_RUN {
             let case = Case::draw(random);
             let expected = case.expected_number();
-            let mut pair = Pair::new(random, case.image, case.arrangement);
+            let mut pair = Pair::new(random, case.image, case.numbers);
             let place = Place { run, command };
             if self.step(random, &mut pair, &case.command, Some(expected), place) {
                 self.counts
-                    .of(Stated::by(case.arrangement))
+                    .of(case.numbers.stated())
                     .refusals(Call::of(&case.command), &case.refusals);
             }
         }
@@ -150,7 +162,7 @@ impl Driver {
         expected: Option<u32>,
         place: Place,
     ) -> bool {
-        let call = describe(command, pair.arrangement());
+        let call = describe(command, pair.numbers());
         if self.verbose {
             println!("command {}: {call}", place.command);
         }
@@ -175,11 +187,12 @@ impl Driver {
         expected: Option<u32>,
     ) -> Result<(), String> {
         let twin = some_twin(random, pair);
+        let met = Met::by(pair.image(), pair.numbers());
         let answer = pair.step(random, command)?;
         let (call, number) = (Call::of(command), answer.number());
-        let stated = Stated::by(pair.arrangement());
+        let stated = pair.numbers().stated();
         let tally = self.counts.of(stated);
-        tally.call(call, &answer, pair.image());
+        tally.call(command, &answer, met);
         match first_to_apply(stated, expected) {
             Some(first) if first != number => {
                 return Err(format!("both answer {number}, but {first} applies first"));
@@ -213,29 +226,59 @@ impl Driver {
 /// The answer where it is known without either program.
 fn first_to_apply(stated: Stated, expected: Option<u32>) -> Option<u32> {
     match stated {
-        Stated::Neither => Some(SIZE),
-        _ => expected,
+        Stated::Kind(_) => expected,
+        _ => Some(SIZE),
     }
 }
 
 /// The disc before a call, for a sample of the calls.
 fn some_twin(random: &mut Random, pair: &Pair) -> Option<Twin> {
     if random.one_in(TWIN_IN) {
-        Twin::new(random, pair.image(), pair.arrangement())
+        Twin::new(random, pair.image(), pair.numbers())
     } else {
         None
     }
 }
 
+/// Of any sort.
+pub fn any_command(random: &mut Random, image: &[u8], kind: Kind) -> Command {
+    generate::command(random, image, kind.sectors(), kind.arrangement())
+}
+
+/// Of any sort, often made for the disc of the other number, and the rarer ones
+/// more often.
+fn misstated_disc_command(random: &mut Random, image: &[u8], kind: Kind) -> Command {
+    match random.below(12) {
+        0 => Command::Blank {
+            name: b"STATED".to_vec(),
+        },
+        1 => Command::List {
+            buffer: Buffer {
+                length: random.below(500),
+                fill: random.byte(),
+            },
+        },
+        2 => Command::View {
+            track: random.below(8) as u32,
+            sector: kind.sectors() + 1,
+        },
+        3..=6 => {
+            let other = kind.other_number(random);
+            any_command(random, image, other)
+        }
+        _ => any_command(random, image, kind),
+    }
+}
+
 /// Mostly saves and deletes of small files, so that the number of files often
 /// passes a multiple of fifteen, up and down.
-pub fn small_file_command(random: &mut Random, image: &[u8], arrangement: u32) -> Command {
+pub fn small_file_command(random: &mut Random, image: &[u8], kind: Kind) -> Command {
     let name = match random.below(3) {
         0 => format!("F{}", random.below(30)).into_bytes(),
         _ => fresh_name(random),
     };
     match random.below(8) {
-        0 | 1 => command(random, image, arrangement),
+        0 | 1 => any_command(random, image, kind),
         2..=4 => Command::Delete { name },
         _ => Command::Save {
             name,
@@ -247,10 +290,10 @@ pub fn small_file_command(random: &mut Random, image: &[u8], arrangement: u32) -
     }
 }
 
-/// Often of modules as long as there are any, or a blank disc.
-fn largest_disc_command(random: &mut Random, image: &[u8], arrangement: u32) -> Command {
+/// Often of modules as long as there are any, under few names, or a blank disc.
+fn largest_disc_command(random: &mut Random, image: &[u8], kind: Kind) -> Command {
     const LONGEST: usize = 65_536;
-    let name = vec![random.pick(b"ABCD")];
+    let [name, new] = [(); 2].map(|_| vec![random.pick(b"ABCD")]);
     let buffer = Buffer {
         length: LONGEST,
         fill: random.byte(),
@@ -266,6 +309,7 @@ fn largest_disc_command(random: &mut Random, image: &[u8], arrangement: u32) -> 
         },
         4..=6 => Command::Read { name, buffer },
         7 => Command::List { buffer },
-        _ => command(random, image, arrangement),
+        8 => Command::Rename { old: name, new },
+        _ => any_command(random, image, kind),
     }
 }

@@ -1,45 +1,47 @@
 //! Commands to which several refusals apply at once.
 //!
-//! Each refusal is asked for or not by chance, and the image, the number stated
+//! Each refusal is asked for or not by chance, and the image, the numbers stated
 //! and the arguments are made for those asked for. So the answer is known
 //! without either program: the first of them in the call's order.
 
-use crate::arrangement::{arranged, Stated, PLAIN};
-use crate::calls::Call;
-use crate::discs::{blank, free_count};
+use crate::calls::{Call, SIZE};
+use crate::discs::{self, blank, free_count};
+use crate::kind::{Kind, Numbers, Stated};
 use reference::command::{Buffer, Command};
 use reference::generate::{break_rule, capacity, fresh_name, illegal_name, Random};
 
-/// One case in so many states neither arrangement.
-const NEITHER_IN: usize = 5;
+/// One case in so many states no kind of disc.
+const NO_KIND_IN: usize = 3;
 /// One of those in so many is of a wrong length as well.
 const WRONG_LENGTH_TOO_IN: usize = 4;
+/// One case in so many has one refusal or none, of any call.
+const FEW_IN: usize = 5;
 
-/// A command, the image it is run on, the number it states, and the refusals
+/// A command, the image it is run on, the numbers it states, and the refusals
 /// that apply to it, in the call's order.
 pub struct Case {
     pub image: Vec<u8>,
-    pub arrangement: u32,
+    pub numbers: Numbers,
     pub command: Command,
     pub refusals: Vec<u32>,
 }
 
 impl Case {
     pub fn draw(random: &mut Random) -> Case {
-        let call = random.pick(&Call::ALL);
-        let stated = Stated::draw(random, NEITHER_IN);
-        let refusals = some_refusals(random, call, stated);
+        let stated = Stated::draw(random, NO_KIND_IN);
+        let numbers = stated.numbers(random);
+        let kind = numbers.of_image(random);
+        let (call, refusals) = some_refusals(random, stated);
         let has = |number: u32| refusals.contains(&number);
-        let disc = Disc::new(random, &has);
+        let disc = Disc::new(random, kind, &has);
         let command = disc.command(random, call, &has);
-        let mut image = arranged(disc.image, stated.of_image(random));
-        if has(1) && (stated != Stated::Neither || random.one_in(WRONG_LENGTH_TOO_IN)) {
-            let wrong = random.pick(&[image.len() - 1, image.len() + 1, image.len() + 256]);
-            image.resize(wrong, 0);
+        let mut image = disc.image;
+        if has(SIZE) && (stated.kind().is_some() || random.one_in(WRONG_LENGTH_TOO_IN)) {
+            image.resize(wrong_length(random, kind, image.len()), 0);
         }
         Case {
             image,
-            arrangement: stated.number(random),
+            numbers,
             command,
             refusals,
         }
@@ -50,16 +52,27 @@ impl Case {
     }
 }
 
-/// Mostly a pair, each as likely as any other, and sometimes a third.
-fn some_refusals(random: &mut Random, call: Call, stated: Stated) -> Vec<u32> {
-    let pairs = call.pairs(stated);
-    let mut asked = match random.below(8) {
-        0 => Vec::new(),
-        _ if pairs.is_empty() => call.order().to_vec(),
-        _ => {
-            let (one, other) = random.pick(&pairs);
-            vec![one, other]
-        }
+/// In place of a length of few tracks: about as long, as long as a disc of the
+/// other number of sectors, or of one track more than there are.
+fn wrong_length(random: &mut Random, kind: Kind, right: usize) -> usize {
+    let other = kind.other_number(random);
+    match random.below(4) {
+        0 => random.pick(&[right - 1, right + 1, right + 256]),
+        1 => 81 * kind.track_bytes(),
+        _ => right / kind.track_bytes() * other.track_bytes(),
+    }
+}
+
+/// Mostly a pair, each of any call as likely as any other, and sometimes a
+/// third.
+fn some_refusals(random: &mut Random, stated: Stated) -> (Call, Vec<u32>) {
+    let pairs = |call: Call| call.pairs(stated).into_iter().map(move |pair| (call, pair));
+    let pairs: Vec<(Call, (u32, u32))> = Call::ALL.into_iter().flat_map(pairs).collect();
+    let (call, mut asked) = if random.one_in(FEW_IN) {
+        (random.pick(&Call::ALL), Vec::new())
+    } else {
+        let (call, (one, other)) = random.pick(&pairs);
+        (call, vec![one, other])
     };
     if random.one_in(3) {
         asked.push(random.pick(call.order()));
@@ -67,16 +80,18 @@ fn some_refusals(random: &mut Random, call: Call, stated: Stated) -> Vec<u32> {
             asked.pop();
         }
     }
-    if stated == Stated::Neither {
-        asked.push(1);
+    if stated.kind().is_none() {
+        asked.push(SIZE);
     }
     let in_order = call.order().iter().copied();
-    in_order.filter(|number| asked.contains(number)).collect()
+    let refusals = in_order.filter(|number| asked.contains(number)).collect();
+    (call, refusals)
 }
 
-/// A plain disc with one file of each kind that a refusal speaks of.
+/// A disc with one file of each sort that a refusal speaks of.
 struct Disc {
     image: Vec<u8>,
+    kind: Kind,
     plain: Vec<u8>,
     plain_length: usize,
     protected: Vec<u8>,
@@ -87,11 +102,12 @@ struct Disc {
 const MOST_PLAIN: usize = 700;
 
 impl Disc {
-    fn new(random: &mut Random, has: &impl Fn(u32) -> bool) -> Disc {
+    fn new(random: &mut Random, kind: Kind, has: &impl Fn(u32) -> bool) -> Disc {
         let [plain, protected, not_plain, absent, filling] = distinct_names(random);
         let tracks = random.between(1, 3);
         let mut disc = Disc {
-            image: blank(random, tracks),
+            image: blank(random, kind, tracks),
+            kind,
             plain,
             plain_length: random.between(1, MOST_PLAIN),
             protected,
@@ -104,32 +120,35 @@ impl Disc {
         }
         if has(3) {
             // The used count alone: all that other refusals look at stays.
-            break_rule(random, &mut disc.image, PLAIN, 7);
+            let (sectors, arrangement) = (kind.sectors(), kind.arrangement());
+            break_rule(random, &mut disc.image, sectors, arrangement, 7);
         }
         disc
     }
 
     fn save_files(&mut self, random: &mut Random) {
-        let image = &mut self.image;
+        let (image, kind) = (&mut self.image, self.kind);
         for (name, length) in [
             (&self.plain, self.plain_length),
             (&self.protected, 200),
             (&self.not_plain, 200),
         ] {
-            let sheet = random.bytes(length);
-            assert_eq!(reference::save(image, PLAIN, name, 0, 0, 0, &sheet), 0);
+            assert_eq!(discs::save(image, kind, name, &random.bytes(length)), 0);
         }
-        assert_eq!(reference::protect(image, PLAIN, &self.protected, 1), 0);
-        // The third slot of 0/4 has the file's first sector and track. Its
-        // byte 2 is the header's mark.
-        let (sector, track) = (image[814], image[815]);
-        image[(usize::from(track) * 10 + usize::from(sector) - 1) * 256 + 2] = 0xFE;
+        let (sectors, arrangement) = (kind.sectors(), kind.arrangement());
+        let number = reference::protect(image, sectors, arrangement, &self.protected, 1);
+        assert_eq!(number, 0);
+        // Bytes 11 and 12 of the third slot point to the file's first sector,
+        // whose byte 2 is the header's mark.
+        let slot = discs::blank_directory(image, kind) + 3 + 2 * 16;
+        let first = discs::place(image, kind, [image[slot + 11], image[slot + 12]]);
+        image[first + 2] = 0xFE;
     }
 
     /// Leaves no free sector, so that every save needs more than there is.
     fn fill(&mut self, random: &mut Random, name: &[u8]) {
         let sheet = random.bytes(capacity(free_count(&self.image)));
-        let number = reference::save(&mut self.image, PLAIN, name, 0, 0, 0, &sheet);
+        let number = discs::save(&mut self.image, self.kind, name, &sheet);
         assert_eq!(number, 0);
     }
 
@@ -153,7 +172,7 @@ impl Disc {
             Call::Blank => Command::Blank {
                 name: disc_name(random, has(2)),
             },
-            Call::View => view(random, has(11)),
+            Call::View => view(random, self.kind, has(11)),
         }
     }
 
@@ -259,12 +278,14 @@ fn disc_name(random: &mut Random, illegal: bool) -> Vec<u8> {
     }
 }
 
-/// On the disc means on its first track, which every image here has.
-fn view(random: &mut Random, off_the_disc: bool) -> Command {
+/// On the disc means on its first track, which every image here has. Off it may
+/// be on a disc of the other number.
+fn view(random: &mut Random, kind: Kind, off_the_disc: bool) -> Command {
+    let sectors = kind.sectors();
     let (track, sector) = match random.below(2) {
-        _ if !off_the_disc => (0, random.between(1, 10) as u32),
+        _ if !off_the_disc => (0, random.between(1, sectors as usize) as u32),
         0 => (random.pick(&[80, 255, 256, u32::MAX]), 1),
-        _ => (0, random.pick(&[0, 11, 256, 257, u32::MAX])),
+        _ => (0, random.pick(&[0, sectors + 1, 256, 257, u32::MAX])),
     };
     Command::View { track, sector }
 }
@@ -278,10 +299,21 @@ mod tests {
         let mut random = Random::new(6);
         for _ in 0..5000 {
             let case = Case::draw(&mut random);
-            let mut image = case.image.clone();
-            let number = case.command.run(&mut image, case.arrangement).number();
+            let Numbers {
+                sectors,
+                arrangement,
+            } = case.numbers;
+            let answer = case
+                .command
+                .run(&mut case.image.clone(), sectors, arrangement);
             let expected = case.expected_number();
-            assert_eq!(number, expected, "{:?} {:?}", case.refusals, case.command);
+            assert_eq!(
+                answer.number(),
+                expected,
+                "{:?} {:?}",
+                case.refusals,
+                case.command
+            );
         }
     }
 }

@@ -1,68 +1,38 @@
-//! What occurred where one arrangement, or neither, was stated, and what
-//! should have but did not.
+//! What occurred where one kind of disc, or none, was stated, and what should
+//! have but did not.
 
-use crate::arrangement::Stated;
-use crate::calls::Call;
-use reference::command::Answer;
+mod report;
+
+use crate::calls::{Call, SIZE};
+use crate::kind::{Kind, Stated};
+use crate::met::{Met, Size};
+use reference::command::{Answer, Command};
 use std::collections::BTreeMap;
-use std::fmt::{Formatter, Result};
 
-const LAST_NUMBER: u32 = 11;
 const LAST_RULE: u32 = 8;
 const LONGEST: u32 = 65_536;
+/// The refusal of a view off the disc.
+const NO_SECTOR: u32 = 11;
 
-/// Images by size. From 26 tracks on a byte position takes more than 16 bits.
-#[derive(Debug, Clone, Copy, PartialEq, Eq, PartialOrd, Ord)]
-enum Size {
-    Wrong,
-    UpTo5,
-    UpTo25,
-    UpTo79,
-    Largest,
-}
-
-impl Size {
-    const ALL: [Size; 5] = [
-        Size::Wrong,
-        Size::UpTo5,
-        Size::UpTo25,
-        Size::UpTo79,
-        Size::Largest,
-    ];
-
-    fn of(image: &[u8]) -> Size {
-        match (image.len() % 2560, image.len() / 2560) {
-            (0, 1..=5) => Size::UpTo5,
-            (0, 6..=25) => Size::UpTo25,
-            (0, 26..=79) => Size::UpTo79,
-            (0, 80) => Size::Largest,
-            _ => Size::Wrong,
-        }
-    }
-
-    fn name(self) -> &'static str {
-        match self {
-            Size::Wrong => "a wrong length",
-            Size::UpTo5 => "1 to 5 tracks",
-            Size::UpTo25 => "6 to 25 tracks",
-            Size::UpTo79 => "26 to 79 tracks",
-            Size::Largest => "80 tracks",
-        }
-    }
-}
-
-#[derive(Debug, Default)]
+#[derive(Debug)]
 pub struct Tally {
+    stated: Stated,
     answers: BTreeMap<(Call, u32), u64>,
     /// By the number of the broken rule; 0 is a sound image.
     rules: BTreeMap<u32, u64>,
     /// By call, the refusal answered and another that applied too.
     pairs: BTreeMap<(Call, u32, u32), u64>,
     sizes: BTreeMap<Size, u64>,
+    /// Calls refused by a length that is right for the other number.
+    of_other_length: BTreeMap<Call, u64>,
+    /// Calls on sound discs of the other number, whose length fits both.
+    misstated: BTreeMap<Call, u64>,
     /// Calls done on images of 80 tracks.
     largest: BTreeMap<Call, u64>,
     /// Reads of modules of the most bytes.
     longest: u64,
+    /// Refused views of the sector after a track's last: of nine t/10.
+    after_last: u64,
     /// Calls amid the runs that stated something else, by what that was.
     asides: BTreeMap<Stated, u64>,
     /// Calls that were done in the other arrangement too.
@@ -72,13 +42,54 @@ pub struct Tally {
 }
 
 impl Tally {
-    /// Counts a call, what it answered and the image that it was made on.
-    pub fn call(&mut self, call: Call, answer: &Answer, image: &[u8]) {
-        let size = Size::of(image);
-        *self.sizes.entry(size).or_default() += 1;
-        self.answer(call, answer.number());
+    pub fn new(stated: Stated) -> Tally {
+        Tally {
+            stated,
+            answers: BTreeMap::new(),
+            rules: BTreeMap::new(),
+            pairs: BTreeMap::new(),
+            sizes: BTreeMap::new(),
+            of_other_length: BTreeMap::new(),
+            misstated: BTreeMap::new(),
+            largest: BTreeMap::new(),
+            longest: 0,
+            after_last: 0,
+            asides: BTreeMap::new(),
+            twins: BTreeMap::new(),
+            refused_twins: 0,
+            moments: 0,
+        }
+    }
+
+    pub fn stated(&self) -> Stated {
+        self.stated
+    }
+
+    /// Counts a command, what it answered and what its image was before.
+    pub fn call(&mut self, command: &Command, answer: &Answer, met: Met) {
+        let (call, number) = (Call::of(command), answer.number());
+        *self.sizes.entry(met.size).or_default() += 1;
+        self.answer(call, number);
+        if met.misstated {
+            *self.misstated.entry(call).or_default() += 1;
+        }
+        if number == SIZE && met.size == Size::OtherNumber {
+            *self.of_other_length.entry(call).or_default() += 1;
+        }
         if answer.accepted() {
-            self.done(call, answer, size);
+            self.done(call, answer, met.size);
+        }
+        self.after_last += u64::from(number == NO_SECTOR && self.is_after_last(command, met));
+    }
+
+    /// Another track follows, so that the number reckoned from track and sector
+    /// is on the disc and only the sector is refused.
+    fn is_after_last(&self, command: &Command, met: Met) -> bool {
+        match (command, self.stated) {
+            (Command::View { track, sector }, Stated::Kind(kind)) => {
+                (*track as usize) + 1 < met.tracks && *sector == kind.sectors() + 1
+            }
+            _ => false,
         }
     }
 
@@ -117,25 +128,30 @@ impl Tally {
         }
     }
 
-    /// Names of what must occur where this is stated and did not. Where it is
-    /// neither arrangement, no call looks at the disc.
-    pub fn missing(&self, stated: Stated) -> Vec<String> {
-        let mut missing = self.missing_answers(stated);
+    /// Names of what must occur where this is stated and did not. Where it is no
+    /// kind of disc, no call looks at the disc.
+    pub fn missing(&self) -> Vec<String> {
+        let mut missing = self.missing_answers();
         let sizes = |size: Size| format!("an image of {}", size.name());
         missing.extend(uncounted(&self.sizes, Size::ALL, sizes));
-        let others = Stated::ALL.into_iter().filter(|&other| other != stated);
+        let others = Stated::ALL
+            .into_iter()
+            .filter(|&other| other != self.stated);
         let asides = |other: Stated| format!("a run with a call stating {}", other.name());
         missing.extend(uncounted(&self.asides, others, asides));
-        if stated != Stated::Neither {
-            missing.extend(self.missing_of_discs());
+        if let Stated::Kind(kind) = self.stated {
+            missing.extend(self.missing_of_discs(kind));
         }
         missing
     }
 
-    fn missing_answers(&self, stated: Stated) -> Vec<String> {
-        let answers = |call: Call| call.answers(stated).into_iter().map(move |one| (call, one));
+    fn missing_answers(&self) -> Vec<String> {
+        let answers = |call: Call| {
+            let answers = call.answers(self.stated).into_iter();
+            answers.map(move |one| (call, one))
+        };
         let pairs = |call: Call| {
-            let pairs = call.pairs(stated).into_iter();
+            let pairs = call.pairs(self.stated).into_iter();
             pairs.map(move |(one, other)| (call, one, other))
         };
         let mut missing = uncounted(
@@ -151,82 +167,26 @@ impl Tally {
         missing
     }
 
-    fn missing_of_discs(&self) -> Vec<String> {
+    fn missing_of_discs(&self, kind: Kind) -> Vec<String> {
         let mut missing = uncounted(&self.rules, 0..=LAST_RULE, rule_name);
-        missing.extend(uncounted(&self.twins, Call::ALL, |call| {
-            format!("{} done in the other arrangement too", call.name())
-        }));
-        missing.extend(uncounted(&self.largest, Call::ALL, |call| {
-            format!("{} done on 80 tracks", call.name())
-        }));
+        let mut of_calls = |counts: &BTreeMap<Call, u64>, what: &str| {
+            let name = |call: Call| format!("{} {what}", call.name());
+            missing.extend(uncounted(counts, Call::ALL, name));
+        };
+        if kind.rearranged().is_some() {
+            of_calls(&self.twins, "done in the other arrangement too");
+        }
+        of_calls(&self.largest, "done on 80 tracks");
+        of_calls(&self.of_other_length, "on the other number's length");
+        of_calls(&self.misstated, "on a sound disc of the other number");
         for (count, name) in [
             (self.longest, "a module of 65,536 bytes read"),
+            (self.after_last, "a view of the sector after the last"),
             (self.moments, "moments of demand 3"),
         ] {
             missing.extend((count == 0).then(|| name.to_string()));
         }
         missing
-    }
-
-    pub fn write(&self, out: &mut Formatter<'_>, stated: Stated) -> Result {
-        writeln!(out, "stated: {}", stated.name())?;
-        self.write_answers(out)?;
-        let sizes = Size::ALL.map(|size| (size.name().to_string(), self.sizes.get(&size)));
-        writeln!(out, "calls on images of: {}", listed(sizes))?;
-        self.write_pairs(out, stated)?;
-        let asides = Stated::ALL.map(|other| (other.name().to_string(), self.asides.get(&other)));
-        writeln!(out, "calls amid these runs stating: {}", listed(asides))?;
-        if stated != Stated::Neither {
-            self.write_of_discs(out)?;
-        }
-        Ok(())
-    }
-
-    /// How often each call gave each number, as a table.
-    pub fn write_answers(&self, out: &mut Formatter<'_>) -> Result {
-        write!(out, "{:8}", "answer")?;
-        for number in 0..=LAST_NUMBER {
-            write!(out, "{number:>9}")?;
-        }
-        writeln!(out)?;
-        for call in Call::ALL {
-            write!(out, "{:8}", call.name())?;
-            for number in 0..=LAST_NUMBER {
-                match self.answers.get(&(call, number)) {
-                    Some(count) => write!(out, "{count:>9}")?,
-                    None => write!(out, "{:>9}", "-")?,
-                }
-            }
-            writeln!(out)?;
-        }
-        Ok(())
-    }
-
-    fn write_pairs(&self, out: &mut Formatter<'_>, stated: Stated) -> Result {
-        writeln!(out, "two refusals at once, the answer first")?;
-        for call in Call::ALL {
-            let pairs = call.pairs(stated).into_iter().map(|(one, other)| {
-                let count = self.pairs.get(&(call, one, other));
-                (format!("{one}+{other}"), count)
-            });
-            if pairs.len() > 0 {
-                writeln!(out, "{:8} {}", call.name(), listed(pairs))?;
-            }
-        }
-        Ok(())
-    }
-
-    fn write_of_discs(&self, out: &mut Formatter<'_>) -> Result {
-        let rules = (0..=LAST_RULE).map(|rule| (rule_name(rule), self.rules.get(&rule)));
-        writeln!(out, "check reports: {}", listed(rules))?;
-        let largest = Call::ALL.map(|call| (call.name().to_string(), self.largest.get(&call)));
-        writeln!(out, "done on 80 tracks: {}", listed(largest))?;
-        writeln!(out, "modules of 65,536 bytes read: {}", self.longest)?;
-        let twins = Call::ALL.map(|call| (call.name().to_string(), self.twins.get(&call)));
-        let refused = ("refused".to_string(), Some(&self.refused_twins));
-        let twins = listed(twins.into_iter().chain([refused]));
-        writeln!(out, "the same in the other arrangement: {twins}")?;
-        writeln!(out, "moments of demand 3 checked: {}", self.moments)
     }
 }
 
@@ -249,26 +209,13 @@ fn uncounted<K: Ord>(
         .collect()
 }
 
-/// 'name: count' for each, 0 where nothing was counted.
-fn listed<'a>(counts: impl IntoIterator<Item = (String, Option<&'a u64>)>) -> String {
-    let items: Vec<String> = counts
-        .into_iter()
-        .map(|(name, count)| format!("{name}: {}", count.unwrap_or(&0)))
-        .collect();
-    items.join(", ")
-}
-
 #[cfg(test)]
 mod tests {
     use super::*;
     use reference::Checked;
 
     fn full(stated: Stated) -> Tally {
-        let mut tally = Tally {
-            longest: 1,
-            moments: 1,
-            ..Tally::default()
-        };
+        let mut tally = Tally::new(stated);
         for call in Call::ALL {
             for number in call.answers(stated) {
                 tally.answer(call, number);
@@ -276,79 +223,137 @@ mod tests {
             for (one, other) in call.pairs(stated) {
                 tally.refusals(call, &[one, other]);
             }
-            tally.largest.insert(call, 1);
             tally.twin(call, 0);
         }
-        tally.sizes = Size::ALL.into_iter().map(|size| (size, 1)).collect();
-        tally.asides = Stated::ALL.into_iter().map(|other| (other, 1)).collect();
-        tally.rules = (0..=LAST_RULE).map(|rule| (rule, 1)).collect();
-        tally
+        let of_calls: BTreeMap<Call, u64> = Call::ALL.into_iter().map(|call| (call, 1)).collect();
+        Tally {
+            sizes: Size::ALL.into_iter().map(|size| (size, 1)).collect(),
+            asides: Stated::ALL.into_iter().map(|other| (other, 1)).collect(),
+            rules: (0..=LAST_RULE).map(|rule| (rule, 1)).collect(),
+            of_other_length: of_calls.clone(),
+            misstated: of_calls.clone(),
+            largest: of_calls,
+            longest: 1,
+            after_last: 1,
+            moments: 1,
+            ..tally
+        }
     }
 
     #[test]
     fn nothing_is_missing_where_all_occurred() {
         for stated in Stated::ALL {
-            assert_eq!(full(stated).missing(stated), Vec::<String>::new());
+            assert_eq!(full(stated).missing(), Vec::<String>::new());
         }
     }
 
     #[test]
     fn what_did_not_occur_is_named() {
-        let mut tally = full(Stated::Moved);
+        let mut tally = full(Stated::Kind(Kind::Moved));
         tally.answers.remove(&(Call::Read, 9));
         tally.pairs.remove(&(Call::Rename, 6, 5));
         tally.sizes.remove(&Size::UpTo79);
-        tally.asides.remove(&Stated::Plain);
+        tally.asides.remove(&Stated::Kind(Kind::Ten));
         tally.rules.remove(&8);
         tally.twins.remove(&Call::Save);
         tally.largest.remove(&Call::Blank);
+        tally.of_other_length.remove(&Call::List);
+        tally.misstated.remove(&Call::Delete);
         tally.longest = 0;
+        tally.after_last = 0;
         tally.moments = 0;
         let expected = [
             "read answering 9",
             "rename with 6 and 5",
             "an image of 26 to 79 tracks",
-            "a run with a call stating plain",
+            "a run with a call stating ten plain",
             "rule 8",
             "save done in the other arrangement too",
             "blank done on 80 tracks",
+            "list on the other number's length",
+            "delete on a sound disc of the other number",
             "a module of 65,536 bytes read",
+            "a view of the sector after the last",
             "moments of demand 3",
         ];
-        assert_eq!(tally.missing(Stated::Moved), expected);
+        assert_eq!(tally.missing(), expected);
     }
 
     #[test]
-    fn a_call_is_counted_by_answer_size_and_what_it_gave() {
-        let mut tally = Tally::default();
-        let checked = |number, rule| Answer::Checked(Checked { number, rule });
-        tally.call(Call::Check, &checked(0, 8), &[0; 80 * 2560]);
-        tally.call(Call::Check, &checked(1, 0), &[0; 80 * 2560 + 1]);
-        assert_eq!(tally.rules, BTreeMap::from([(8, 1)]));
-        let sizes = [(Size::Wrong, 1), (Size::Largest, 1)];
-        assert_eq!(tally.sizes, BTreeMap::from(sizes));
-        assert_eq!(tally.largest, BTreeMap::from([(Call::Check, 1)]));
-        let answers = [((Call::Check, 0), 1), ((Call::Check, 1), 1)];
+    fn nine_sectors_have_no_other_arrangement_to_be_missing() {
+        let mut tally = full(Stated::Kind(Kind::Nine));
+        tally.twins.clear();
+        assert_eq!(tally.missing(), Vec::<String>::new());
+    }
+
+    #[test]
+    fn a_call_is_counted_by_answer_image_and_what_it_gave() {
+        let mut tally = Tally::new(Stated::Kind(Kind::Nine));
+        let mut check = |number, rule, size, misstated| {
+            let answer = Answer::Checked(Checked { number, rule });
+            let met = Met {
+                size,
+                tracks: 80,
+                misstated,
+            };
+            tally.call(&Command::Check, &answer, met);
+        };
+        check(0, 8, Size::Largest, false);
+        check(0, 2, Size::UpTo25, true);
+        check(1, 0, Size::Wrong, false);
+        check(1, 0, Size::OtherNumber, false);
+        let once = BTreeMap::from([(Call::Check, 1)]);
+        assert_eq!(tally.rules, BTreeMap::from([(8, 1), (2, 1)]));
+        assert_eq!(tally.sizes.len(), 4);
+        assert_eq!(tally.largest, once);
+        assert_eq!(tally.misstated, once);
+        assert_eq!(tally.of_other_length, once);
+        let answers = [((Call::Check, 0), 2), ((Call::Check, 1), 2)];
         assert_eq!(tally.answers, BTreeMap::from(answers));
     }
 
     #[test]
-    fn a_refusal_in_both_arrangements_is_none_that_was_done() {
-        let mut tally = full(Stated::Plain);
-        tally.twins.remove(&Call::Blank);
-        tally.twin(Call::Blank, 2);
-        assert_eq!(tally.missing(Stated::Plain).len(), 1);
+    fn the_sector_after_the_last_is_11_of_ten_and_10_of_nine() {
+        for (kind, after) in [(Kind::Ten, 11), (Kind::Moved, 11), (Kind::Nine, 10)] {
+            let mut tally = Tally::new(Stated::Kind(kind));
+            let met = Met::by(&vec![0; 3 * kind.track_bytes()], kind.numbers());
+            for (track, sector, number) in [
+                (1, after - 1, 0),
+                (1, after + 1, 11),
+                (2, after, 11),
+                (1, after, 11),
+            ] {
+                assert_eq!(tally.after_last, 0);
+                let answer = Answer::Viewed {
+                    number,
+                    start: 0,
+                    bytes: Vec::new(),
+                };
+                tally.call(&Command::View { track, sector }, &answer, met);
+            }
+            assert_eq!(tally.after_last, 1);
+        }
     }
 
     #[test]
-    fn with_neither_only_the_refusal_must_occur() {
-        let mut tally = Tally::default();
-        for call in Call::ALL {
-            tally.answer(call, 1);
+    fn a_refusal_in_both_arrangements_is_none_that_was_done() {
+        let mut tally = full(Stated::Kind(Kind::Ten));
+        tally.twins.remove(&Call::Blank);
+        tally.twin(Call::Blank, 2);
+        assert_eq!(tally.missing().len(), 1);
+    }
+
+    #[test]
+    fn without_a_kind_only_the_refusal_must_occur() {
+        for stated in [Stated::NoSectors, Stated::NoArrangement, Stated::NineMoved] {
+            let mut tally = Tally::new(stated);
+            for call in Call::ALL {
+                tally.answer(call, 1);
+            }
+            let missing = tally.missing();
+            assert!(missing.contains(&"save with 1 and 8".to_string()));
+            assert!(!missing.contains(&"save with 5 and 8".to_string()));
+            assert!(!missing.contains(&"moments of demand 3".to_string()));
         }
-        let missing = tally.missing(Stated::Neither);
-        assert!(missing.contains(&"save with 1 and 8".to_string()));
-        assert!(!missing.contains(&"save with 5 and 8".to_string()));
-        assert!(!missing.contains(&"moments of demand 3".to_string()));
     }
 }

@@ -1,10 +1,11 @@
 //! A command run a second time, on the same disc in the other arrangement.
 //!
 //! The library is compared with itself here: whatever the second program
-//! makes of a command, both arrangements must make the same of it.
+//! makes of a command, both arrangements must make the same of it. Discs of nine
+//! sectors have one arrangement only, and no twin.
 
-use crate::arrangement::{MOVED, PLAIN};
 use crate::difference::{between_answers, between_images};
+use crate::kind::{Kind, Numbers};
 use crate::lend::Lent;
 use crate::library::{self, beside};
 use reference::command::{Answer, Command};
@@ -12,19 +13,26 @@ use reference::generate::Random;
 
 pub struct Twin {
     image: Lent,
-    arrangement: u32,
-    of: u32,
+    kind: Kind,
+    of: Kind,
+}
+
+/// An image of one kind as the same disc of another; none for a wrong length.
+fn rearranged(image: &[u8], from: Kind, to: Kind) -> Option<Vec<u8>> {
+    reference::rearranged(image, from.sectors(), from.arrangement(), to.arrangement())
 }
 
 impl Twin {
-    /// None for an image of a wrong length or arrangement.
-    pub fn new(random: &mut Random, image: &[u8], arrangement: u32) -> Option<Twin> {
-        let other = if arrangement == PLAIN { MOVED } else { PLAIN };
-        let rearranged = reference::rearranged(image, arrangement, other)?;
+    /// None for an image of a wrong length or of nine sectors, or where no kind
+    /// is stated.
+    pub fn new(random: &mut Random, image: &[u8], numbers: Numbers) -> Option<Twin> {
+        let of = numbers.kind()?;
+        let kind = of.rearranged()?;
+        let image = rearranged(image, of, kind)?;
         Some(Twin {
-            image: Lent::new(random, &rearranged),
-            arrangement: other,
-            of: arrangement,
+            image: Lent::new(random, &image),
+            kind,
+            of,
         })
     }
 
@@ -37,14 +45,15 @@ impl Twin {
         answer: Answer,
         image: &[u8],
     ) -> Option<String> {
-        let outcome = library::run(random, command, self.arrangement, &mut self.image);
-        let expected = reference::rearranged(image, self.of, self.arrangement)?;
+        let numbers = self.kind.numbers();
+        let outcome = library::run(random, command, numbers, &mut self.image);
+        let expected = rearranged(image, self.of, self.kind)?;
         outcome
             .stray_write
             .or_else(|| between_answers(&placeless(outcome.answer), &placeless(answer)))
             .or_else(|| beside("image", &self.image))
-            .or_else(|| between_images(self.image.bytes(), &expected, self.arrangement))
-            .map(|text| format!("the same with arrangement {}: {text}", self.arrangement))
+            .or_else(|| between_images(self.image.bytes(), &expected, numbers))
+            .map(|text| format!("the same on {}: {text}", self.kind.name()))
     }
 }
 
@@ -63,26 +72,27 @@ fn placeless(answer: Answer) -> Answer {
 #[cfg(test)]
 mod tests {
     use super::*;
-    use crate::arrangement::arranged;
     use crate::discs;
 
+    const TENS: [Kind; 2] = [Kind::Ten, Kind::Moved];
+
     /// A disc's image before and after a command, and the answer.
-    fn run(command: &Command, arrangement: u32) -> (Vec<u8>, Vec<u8>, Answer) {
-        let before = arranged(discs::blank(&mut Random::new(9), 2), arrangement);
+    fn run(command: &Command, kind: Kind) -> (Vec<u8>, Vec<u8>, Answer) {
+        let before = discs::blank(&mut Random::new(9), kind, 2);
         let mut image = before.clone();
-        let answer = command.run(&mut image, arrangement);
+        let answer = command.run(&mut image, kind.sectors(), kind.arrangement());
         (before, image, answer)
     }
 
     fn fault(
         command: &Command,
-        arrangement: u32,
+        kind: Kind,
         before: &[u8],
         answer: Answer,
         image: &[u8],
     ) -> Option<String> {
         let mut random = Random::new(10);
-        let twin = Twin::new(&mut random, before, arrangement).expect("a right length");
+        let twin = Twin::new(&mut random, before, kind.numbers()).expect("a right length");
         twin.fault(&mut random, command, answer, image)
     }
 
@@ -95,9 +105,9 @@ mod tests {
             transfer: 0x2000,
             sheet: vec![7; 300],
         };
-        for arrangement in [PLAIN, MOVED] {
-            let (before, image, answer) = run(&save, arrangement);
-            let told = |answer, image: &[u8]| fault(&save, arrangement, &before, answer, image);
+        for kind in TENS {
+            let (before, image, answer) = run(&save, kind);
+            let told = |answer, image: &[u8]| fault(&save, kind, &before, answer, image);
             assert_eq!(told(answer.clone(), &image), None);
             assert!(told(Answer::Number(8), &image).is_some());
             assert!(told(answer, &before).is_some());
@@ -110,22 +120,29 @@ mod tests {
             track: 0,
             sector: 4,
         };
-        for arrangement in [PLAIN, MOVED] {
-            let (before, image, answer) = run(&view, arrangement);
-            assert_eq!(fault(&view, arrangement, &before, answer, &image), None);
+        for kind in TENS {
+            let (before, image, answer) = run(&view, kind);
+            assert_eq!(fault(&view, kind, &before, answer, &image), None);
             let other = Answer::Viewed {
                 number: 0,
                 start: 0,
                 bytes: vec![9; 254],
             };
-            assert!(fault(&view, arrangement, &before, other, &image).is_some());
+            assert!(fault(&view, kind, &before, other, &image).is_some());
         }
     }
 
     #[test]
-    fn a_wrong_length_or_number_has_no_twin() {
+    fn a_wrong_length_nine_sectors_or_no_kind_has_no_twin() {
         let random = &mut Random::new(11);
-        assert!(Twin::new(random, &[0; 2559], PLAIN).is_none());
-        assert!(Twin::new(random, &[0; 2560], 2).is_none());
+        let mut has = |length, numbers| Twin::new(random, &vec![0; length], numbers).is_some();
+        let no_kind = Numbers {
+            sectors: 10,
+            arrangement: 2,
+        };
+        assert!(has(2560, Kind::Ten.numbers()) && has(2560, Kind::Moved.numbers()));
+        assert!(!has(2559, Kind::Ten.numbers()) && !has(2304, Kind::Moved.numbers()));
+        assert!(!has(2304, Kind::Nine.numbers()) && !has(23_040, Kind::Nine.numbers()));
+        assert!(!has(2560, no_kind));
     }
 }

@@ -75,7 +75,7 @@ impl<'a> Marks<'a> {
     fn file_is_right(&mut self, entry: &Entry) -> bool {
         match self.walk(entry.first) {
             Some((length, last)) => {
-                length == usize::from(entry.length) && last.address() == entry.last
+                length == usize::from(entry.length) && self.disc.address(last) == entry.last
             }
             None => false,
         }

@@ -83,28 +83,31 @@ impl Answer {
 }
 
 impl Command {
-    pub fn run(&self, image: &mut [u8], arrangement: u32) -> Answer {
+    pub fn run(&self, image: &mut [u8], sectors: u32, arrangement: u32) -> Answer {
         match self {
-            Command::Check => Answer::Checked(crate::check(image, arrangement)),
+            Command::Check => Answer::Checked(crate::check(image, sectors, arrangement)),
             Command::List { buffer } => {
                 let mut lent = buffer.lend();
-                Answer::Listed(crate::list(image, arrangement, &mut lent), lent)
+                Answer::Listed(crate::list(image, sectors, arrangement, &mut lent), lent)
             }
             Command::Read { name, buffer } => {
                 let mut lent = buffer.lend();
-                Answer::Read(crate::read(image, arrangement, name, &mut lent), lent)
+                Answer::Read(
+                    crate::read(image, sectors, arrangement, name, &mut lent),
+                    lent,
+                )
             }
             Command::View { track, sector } => Answer::Viewed {
-                number: crate::view_number(image, arrangement, *track, *sector),
-                start: crate::view_start(image, arrangement, *track, *sector),
-                bytes: crate::view(image, arrangement, *track, *sector).to_vec(),
+                number: crate::view_number(image, sectors, arrangement, *track, *sector),
+                start: crate::view_start(image, sectors, arrangement, *track, *sector),
+                bytes: crate::view(image, sectors, arrangement, *track, *sector).to_vec(),
             },
-            writing => Answer::Number(writing.run_writing(image, arrangement)),
+            writing => Answer::Number(writing.run_writing(image, sectors, arrangement)),
         }
     }
 
     /// The commands that may change the image; the others leave it and give 0.
-    fn run_writing(&self, image: &mut [u8], arrangement: u32) -> u32 {
+    fn run_writing(&self, image: &mut [u8], sectors: u32, arrangement: u32) -> u32 {
         match self {
             Command::Save {
                 name,
@@ -112,11 +115,20 @@ impl Command {
                 start,
                 transfer,
                 sheet,
-            } => crate::save(image, arrangement, name, *page, *start, *transfer, sheet),
-            Command::Delete { name } => crate::delete(image, arrangement, name),
-            Command::Rename { old, new } => crate::rename(image, arrangement, old, new),
-            Command::Protect { name, on } => crate::protect(image, arrangement, name, *on),
-            Command::Blank { name } => crate::blank(image, arrangement, name),
+            } => crate::save(
+                image,
+                sectors,
+                arrangement,
+                name,
+                *page,
+                *start,
+                *transfer,
+                sheet,
+            ),
+            Command::Delete { name } => crate::delete(image, sectors, arrangement, name),
+            Command::Rename { old, new } => crate::rename(image, sectors, arrangement, old, new),
+            Command::Protect { name, on } => crate::protect(image, sectors, arrangement, name, *on),
+            Command::Blank { name } => crate::blank(image, sectors, arrangement, name),
             Command::Check | Command::List { .. } | Command::Read { .. } | Command::View { .. } => {
                 0
             }

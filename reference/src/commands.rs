@@ -1,11 +1,9 @@
-//! The commands but save, each in the order of its refusals.
+//! The commands but save, each in the order of its refusals. Refusal 1 comes
+//! first in all of them, when the caller opens the disc.
 
 use crate::check::require_sound;
 use crate::directory::{self, Entry, Slot, PROTECTED, UNPROTECTED};
-use crate::disc::{
-    Address, Disc, DiscMut, Sector, DISC_NAME, FREE_COUNT, LINK_BYTES, PASSING_ORDER,
-    SECTORS_PER_TRACK, VERSION,
-};
+use crate::disc::{Address, Disc, DiscMut, Sector, DISC_NAME, FREE_COUNT, LINK_BYTES, VERSION};
 use crate::module::{copy_bytes, plain_header};
 use crate::name::{Name, NAME_BYTES};
 use crate::refusal::Refusal;
@@ -13,7 +11,7 @@ use crate::Reading;
 use std::ops::Range;
 
 const VERSION_TEXT: &[u8; 17] = b"TANDOS 65 IMAGE 1";
-/// 0/1 and 0/4 come first in the passing order and are never free.
+/// 0/1 and 0/4 come first in either passing order and are never free.
 const TAKEN_ON_BLANK: usize = 2;
 
 const DISC_RECORD: u8 = 1;
@@ -24,8 +22,7 @@ const END_RECORD: u8 = 0;
 const END_RECORD_BYTES: usize = 1;
 
 /// Gives the length of the records written.
-pub fn list(image: &[u8], arrangement: u32, buffer: &mut [u8]) -> Result<usize, Refusal> {
-    let disc = Disc::open(image, arrangement)?;
+pub fn list(disc: Disc<'_>, buffer: &mut [u8]) -> Result<usize, Refusal> {
     require_sound(disc)?;
     let files = directory::entries(disc).count();
     let length = DISC_RECORD_BYTES + files * FILE_RECORD_BYTES + END_RECORD_BYTES;
@@ -46,13 +43,7 @@ pub fn list(image: &[u8], arrangement: u32, buffer: &mut [u8]) -> Result<usize, 
     Ok(length)
 }
 
-pub fn read(
-    image: &[u8],
-    arrangement: u32,
-    name: &[u8],
-    buffer: &mut [u8],
-) -> Result<Reading, Refusal> {
-    let disc = Disc::open(image, arrangement)?;
+pub fn read(disc: Disc<'_>, name: &[u8], buffer: &mut [u8]) -> Result<Reading, Refusal> {
     let (_, entry) = find_typed(disc, name)?;
     let header = plain_header(disc, &entry).ok_or(Refusal::NotPlain)?;
     let front = buffer.get_mut(..header.length()).ok_or(Refusal::Short)?;
@@ -67,8 +58,7 @@ pub fn read(
     })
 }
 
-pub fn delete(image: &mut [u8], arrangement: u32, name: &[u8]) -> Result<(), Refusal> {
-    let mut disc = DiscMut::open(image, arrangement)?;
+pub fn delete(mut disc: DiscMut<'_>, name: &[u8]) -> Result<(), Refusal> {
     let before = disc.now();
     let (slot, entry) = find_typed(before, name)?;
     refuse_protected(&entry)?;
@@ -84,8 +74,7 @@ pub fn delete(image: &mut [u8], arrangement: u32, name: &[u8]) -> Result<(), Ref
     Ok(())
 }
 
-pub fn rename(image: &mut [u8], arrangement: u32, old: &[u8], new: &[u8]) -> Result<(), Refusal> {
-    let mut disc = DiscMut::open(image, arrangement)?;
+pub fn rename(mut disc: DiscMut<'_>, old: &[u8], new: &[u8]) -> Result<(), Refusal> {
     let new = Name::of_file(new).ok_or(Refusal::Name)?;
     let (slot, entry) = find_typed(disc.now(), old)?;
     refuse_protected(&entry)?;
@@ -96,71 +85,60 @@ pub fn rename(image: &mut [u8], arrangement: u32, old: &[u8], new: &[u8]) -> Res
     Ok(())
 }
 
-pub fn protect(image: &mut [u8], arrangement: u32, name: &[u8], on: u32) -> Result<(), Refusal> {
-    let mut disc = DiscMut::open(image, arrangement)?;
+pub fn protect(mut disc: DiscMut<'_>, name: &[u8], on: u32) -> Result<(), Refusal> {
     let (slot, _) = find_typed(disc.now(), name)?;
     slot.put_attribute(&mut disc, if on == 0 { UNPROTECTED } else { PROTECTED });
     Ok(())
 }
 
-pub fn blank(image: &mut [u8], arrangement: u32, name: &[u8]) -> Result<(), Refusal> {
-    let mut disc = DiscMut::open(image, arrangement)?;
+pub fn blank(mut disc: DiscMut<'_>, name: &[u8]) -> Result<(), Refusal> {
     let name = Name::of_disc(name).ok_or(Refusal::Name)?;
-    let sectors = disc.now().sectors();
+    let (sectors, order) = (disc.now().sectors(), disc.now().format().passing_order());
     disc.clear();
     let system = disc.system_mut();
     system[DISC_NAME..DISC_NAME + NAME_BYTES].copy_from_slice(&name.0);
     system[VERSION..VERSION + VERSION_TEXT.len()].copy_from_slice(VERSION_TEXT);
     disc.put_directory_pointer(Address {
         track: 0,
-        sector: PASSING_ORDER[TAKEN_ON_BLANK - 1],
+        sector: order[TAKEN_ON_BLANK - 1],
     });
     disc.put_counts(sectors - TAKEN_ON_BLANK, 0);
-    link_blank_chain(&mut disc, sectors);
+    link_blank_chain(&mut disc, order);
     Ok(())
 }
 
 /// Links the free sectors from the last back to the first.
-fn link_blank_chain(disc: &mut DiscMut<'_>, sectors: usize) {
+fn link_blank_chain(disc: &mut DiscMut<'_>, order: &[u8]) {
     let mut next = Address::END;
-    for position in (TAKEN_ON_BLANK..sectors).rev() {
-        let track = position / SECTORS_PER_TRACK;
-        let sector = PASSING_ORDER[position % SECTORS_PER_TRACK];
-        let number = track * SECTORS_PER_TRACK + usize::from(sector) - 1;
-        disc.put_link(Sector::numbered(number), next);
-        next = Address {
-            track: track as u8,
-            sector,
-        };
+    for track in (0..disc.now().tracks()).rev() {
+        let taken = if track == 0 { TAKEN_ON_BLANK } else { 0 };
+        for &sector in order[taken..].iter().rev() {
+            let number = track * order.len() + usize::from(sector) - 1;
+            disc.put_link(Sector::numbered(number), next);
+            next = Address {
+                track: track as u8,
+                sector,
+            };
+        }
     }
     disc.put_free_pointer(next);
 }
 
 /// Where the bytes after the link of any sector on the disc, sound or not, lie
 /// in the image.
-pub fn view(
-    image: &[u8],
-    arrangement: u32,
-    track: u32,
-    sector: u32,
-) -> Result<Range<usize>, Refusal> {
-    let disc = Disc::open(image, arrangement)?;
-    let sector = Sector::on_disc(track, sector, disc.tracks()).ok_or(Refusal::NoSector)?;
+pub fn view(disc: Disc<'_>, track: u32, sector: u32) -> Result<Range<usize>, Refusal> {
+    let sector = disc.on_disc(track, sector).ok_or(Refusal::NoSector)?;
     let Range { start, end } = disc.place(sector);
     Ok(start + LINK_BYTES..end)
 }
 
-/// The sectors of an image in another arrangement.
-pub fn rearranged(image: &[u8], from: u32, to: u32) -> Result<Vec<u8>, Refusal> {
-    let disc = Disc::open(image, from)?;
-    let mut other = vec![0; image.len()];
-    let mut target = DiscMut::open(&mut other, to)?;
+/// Copies the sectors to a disc of the same size in another arrangement.
+pub fn rearrange(disc: Disc<'_>, mut target: DiscMut<'_>) {
     for sector in (0..disc.sectors()).map(Sector::numbered) {
         target
             .sector_mut(sector)
             .copy_from_slice(disc.sector(sector));
     }
-    Ok(other)
 }
 
 /// The refusals 2, 3 and 4 that the commands on a standing file share.

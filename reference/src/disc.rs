@@ -1,15 +1,17 @@
 //! The disc as sectors and chains, their places in the image, and the fields
-//! of the system sector.
+//! of the system sector. `Format` is the one home of the number of sectors.
 
 use crate::refusal::Refusal;
 use std::ops::Range;
 
 pub const SECTOR_BYTES: usize = 256;
-pub const SECTORS_PER_TRACK: usize = 10;
-pub const TRACK_BYTES: usize = SECTOR_BYTES * SECTORS_PER_TRACK;
 pub const MAX_TRACKS: usize = 80;
-pub const MAX_SECTORS: usize = MAX_TRACKS * SECTORS_PER_TRACK;
+/// Of the larger format.
+pub const MAX_SECTORS: usize = MAX_TRACKS * TEN;
 pub const LINK_BYTES: usize = 2;
+
+const NINE: usize = 9;
+const TEN: usize = 10;
 
 pub const FREE_POINTER: usize = 0x10;
 pub const DIRECTORY_POINTER: usize = 0x12;
@@ -19,86 +21,98 @@ pub const DISC_NAME: usize = 0x18;
 pub const VERSION: usize = 0x40;
 
 /// The order in which the sectors of a track pass: along the chain of a blank
-/// disc, and from place to place of a moved image.
-pub const PASSING_ORDER: [u8; SECTORS_PER_TRACK] = [1, 4, 7, 10, 3, 6, 9, 2, 5, 8];
+/// disc, and for ten also from place to place of a moved image.
+const ORDER_OF_NINE: [u8; NINE] = [1, 4, 7, 2, 5, 8, 3, 6, 9];
+const ORDER_OF_TEN: [u8; TEN] = [1, 4, 7, 10, 3, 6, 9, 2, 5, 8];
 
 /// Which place of its track each sector has in a moved image; sector 1 comes
 /// first here, and places count from 0.
-const MOVED_PLACES: [u8; SECTORS_PER_TRACK] = places_in(PASSING_ORDER);
+const MOVED_PLACES: [u8; TEN] = places_in(ORDER_OF_TEN);
 
-const fn places_in(order: [u8; SECTORS_PER_TRACK]) -> [u8; SECTORS_PER_TRACK] {
-    let mut places = [0; SECTORS_PER_TRACK];
+const fn places_in(order: [u8; TEN]) -> [u8; TEN] {
+    let mut places = [0; TEN];
     let mut place = 0;
-    while place < SECTORS_PER_TRACK {
+    while place < TEN {
         places[order[place] as usize - 1] = place as u8;
         place += 1;
     }
     places
 }
 
-/// How the sectors of each track are arranged in the image.
+/// What the caller states of an image by two numbers: how many sectors a track
+/// has, and how they are arranged in the image. Only these three exist.
 #[derive(Debug, Clone, Copy, PartialEq, Eq)]
-pub enum Arrangement {
-    /// By sector number.
-    Plain,
-    /// In passing order.
-    Moved,
+pub enum Format {
+    /// Nine sectors, by number.
+    Nine,
+    /// Ten sectors, by number.
+    Ten,
+    /// Ten sectors, in passing order.
+    TenMoved,
 }
 
-impl Arrangement {
-    /// The arrangement that the caller states by number.
-    pub fn stated(number: u32) -> Option<Arrangement> {
-        match number {
-            0 => Some(Arrangement::Plain),
-            1 => Some(Arrangement::Moved),
+impl Format {
+    pub fn stated(sectors: u32, arrangement: u32) -> Option<Format> {
+        match (sectors, arrangement) {
+            (9, 0) => Some(Format::Nine),
+            (10, 0) => Some(Format::Ten),
+            (10, 1) => Some(Format::TenMoved),
             _ => None,
+        }
+    }
+
+    pub fn sectors_per_track(self) -> usize {
+        self.passing_order().len()
+    }
+
+    pub fn passing_order(self) -> &'static [u8] {
+        match self {
+            Format::Nine => &ORDER_OF_NINE,
+            Format::Ten | Format::TenMoved => &ORDER_OF_TEN,
+        }
+    }
+
+    /// The whole tracks in a count of sectors. Dividing by a number that stands
+    /// here is quicker than by one that only the run knows.
+    fn whole_tracks(self, sectors: usize) -> usize {
+        match self {
+            Format::Nine => sectors / NINE,
+            Format::Ten | Format::TenMoved => sectors / TEN,
         }
     }
 }
 
-/// A sector's number on the disc, 10t + s - 1. It is neither a byte position
-/// nor a track and sector pair, and the type keeps the three apart.
+/// A sector's number on the disc: with ten sectors a track 10t + s - 1, with
+/// nine 9t + s - 1. It is neither a byte position nor a track and sector pair,
+/// and the type keeps the three apart.
 #[derive(Debug, Clone, Copy, PartialEq, Eq)]
-pub struct Sector(u16);
+pub struct Sector(u32);
 
 impl Sector {
     /// 0/1, the only sector outside every chain.
     pub const SYSTEM: Sector = Sector(0);
 
-    /// The sector of a track and a sector number, if the disc has it.
-    pub fn on_disc(track: u32, sector: u32, tracks: usize) -> Option<Sector> {
-        let on_disc = (track as usize) < tracks && (1..=10).contains(&sector);
-        on_disc.then(|| Sector((track * 10 + sector - 1) as u16))
-    }
-
     /// The sector of a number, which the caller knows to be on the disc.
     pub fn numbered(number: usize) -> Sector {
-        Sector(number as u16)
+        Sector(number as u32)
     }
 
     pub fn number(self) -> usize {
-        usize::from(self.0)
+        self.0 as usize
     }
 
     /// Byte position of the sector in an image. Nothing else knows how an
     /// image is arranged.
-    fn start(self, arrangement: Arrangement) -> usize {
+    fn start(self, format: Format) -> usize {
         let number = self.number();
-        let place = match arrangement {
-            Arrangement::Plain => number,
-            Arrangement::Moved => {
-                let in_track = number % SECTORS_PER_TRACK;
+        let place = match format {
+            Format::Nine | Format::Ten => number,
+            Format::TenMoved => {
+                let in_track = number % TEN;
                 number - in_track + usize::from(MOVED_PLACES[in_track])
             }
         };
         place * SECTOR_BYTES
-    }
-
-    pub fn address(self) -> Address {
-        Address {
-            track: (self.0 / 10) as u8,
-            sector: (self.0 % 10 + 1) as u8,
-        }
     }
 }
 
@@ -155,24 +169,24 @@ impl Address {
     }
 }
 
-/// An image of a right size and a known arrangement, for reading.
+/// An image of a known format and a right size, for reading.
 #[derive(Debug, Clone, Copy)]
 pub struct Disc<'a> {
     image: &'a [u8],
     tracks: usize,
-    arrangement: Arrangement,
+    format: Format,
 }
 
 impl<'a> Disc<'a> {
-    pub fn open(image: &'a [u8], arrangement: u32) -> Result<Disc<'a>, Refusal> {
-        let arrangement = Arrangement::stated(arrangement).ok_or(Refusal::Size)?;
-        let tracks = image.len() / TRACK_BYTES;
-        let right = image.len() % TRACK_BYTES == 0 && (1..=MAX_TRACKS).contains(&tracks);
-        if right {
+    pub fn open(image: &'a [u8], sectors: u32, arrangement: u32) -> Result<Disc<'a>, Refusal> {
+        let format = Format::stated(sectors, arrangement).ok_or(Refusal::Size)?;
+        let tracks = format.whole_tracks(image.len() / SECTOR_BYTES);
+        let whole = tracks * format.sectors_per_track() * SECTOR_BYTES == image.len();
+        if whole && (1..=MAX_TRACKS).contains(&tracks) {
             Ok(Disc {
                 image,
                 tracks,
-                arrangement,
+                format,
             })
         } else {
             Err(Refusal::Size)
@@ -183,13 +197,17 @@ impl<'a> Disc<'a> {
         self.tracks
     }
 
+    pub fn format(self) -> Format {
+        self.format
+    }
+
     pub fn sectors(self) -> usize {
-        self.tracks * SECTORS_PER_TRACK
+        self.image.len() / SECTOR_BYTES
     }
 
     /// Where the 256 bytes of a sector lie in the image.
     pub fn place(self, sector: Sector) -> Range<usize> {
-        let start = sector.start(self.arrangement);
+        let start = sector.start(self.format);
         start..start + SECTOR_BYTES
     }
 
@@ -207,13 +225,27 @@ impl<'a> Disc<'a> {
         Address::from_link(self.sector(sector))
     }
 
+    /// The sector of a track and a sector number, if the disc has it.
+    pub fn on_disc(self, track: u32, sector: u32) -> Option<Sector> {
+        let per_track = self.format.sectors_per_track() as u32;
+        // Sector 0 wraps round to a number that no track has.
+        let in_track = sector.wrapping_sub(1);
+        let on_disc = (track as usize) < self.tracks && in_track < per_track;
+        on_disc.then(|| Sector(track * per_track + in_track))
+    }
+
     /// The sector at an address, or nothing for an end or a place off the disc.
     pub fn locate(self, address: Address) -> Option<Sector> {
-        Sector::on_disc(
-            u32::from(address.track),
-            u32::from(address.sector),
-            self.tracks,
-        )
+        self.on_disc(u32::from(address.track), u32::from(address.sector))
+    }
+
+    pub fn address(self, sector: Sector) -> Address {
+        let track = self.format.whole_tracks(sector.number());
+        let before = track * self.format.sectors_per_track();
+        Address {
+            track: track as u8,
+            sector: (sector.number() - before) as u8 + 1,
+        }
     }
 
     /// The sectors from an address to the end link. The walk gives up after as
@@ -247,25 +279,25 @@ impl<'a> Disc<'a> {
     }
 }
 
-/// An image of a right size and a known arrangement, for writing.
+/// An image of a known format and a right size, for writing.
 #[derive(Debug)]
 pub struct DiscMut<'a> {
     image: &'a mut [u8],
     tracks: usize,
-    arrangement: Arrangement,
+    format: Format,
 }
 
 impl<'a> DiscMut<'a> {
-    pub fn open(image: &'a mut [u8], arrangement: u32) -> Result<DiscMut<'a>, Refusal> {
-        let Disc {
-            tracks,
-            arrangement,
-            ..
-        } = Disc::open(image, arrangement)?;
+    pub fn open(
+        image: &'a mut [u8],
+        sectors: u32,
+        arrangement: u32,
+    ) -> Result<DiscMut<'a>, Refusal> {
+        let Disc { tracks, format, .. } = Disc::open(image, sectors, arrangement)?;
         Ok(DiscMut {
             image,
             tracks,
-            arrangement,
+            format,
         })
     }
 
@@ -274,7 +306,7 @@ impl<'a> DiscMut<'a> {
         Disc {
             image: self.image,
             tracks: self.tracks,
-            arrangement: self.arrangement,
+            format: self.format,
         }
     }
 

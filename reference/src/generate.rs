@@ -1,8 +1,10 @@
 //! Seeded generators of discs, sound and damaged, and of command lists.
 //!
-//! Discs are laid out plain and arranged at the end, so that a seed gives the
-//! same disc in either arrangement. Any other number leaves it plain, and its
-//! commands are those of a plain one, so that only the number is wrong.
+//! A seed gives discs for either number of sectors. They are laid out plain and
+//! arranged at the end, so that a seed gives the same disc in either
+//! arrangement. Where the stated numbers are no format, the disc is plain, of
+//! nine sectors if nine is stated and else of ten, and its commands are made for
+//! that, so that only the numbers are wrong.
 
 mod commands;
 mod damage;
@@ -18,16 +20,36 @@ pub use files::capacity;
 pub use names::{fresh_name, illegal_name, standing_names, typed_form};
 pub use random::Random;
 
-use crate::disc::Arrangement;
+use crate::disc::Format;
 
+const NINE: u32 = 9;
+const TEN: u32 = 10;
 const PLAIN: u32 = 0;
 
-/// A plain image in the arrangement stated; a wrong length or number leaves it.
-fn arranged(plain: Vec<u8>, arrangement: u32) -> Vec<u8> {
-    crate::rearranged(&plain, PLAIN, arrangement).unwrap_or(plain)
+/// The numbers of the disc that is made when these are stated.
+fn numbers_made(sectors: u32, arrangement: u32) -> (u32, u32) {
+    if Format::stated(sectors, arrangement).is_some() {
+        (sectors, arrangement)
+    } else if sectors == NINE {
+        (NINE, PLAIN)
+    } else {
+        (TEN, PLAIN)
+    }
 }
 
-/// The arrangement that an image made for this number has.
-fn arrangement_made(arrangement: u32) -> u32 {
-    Arrangement::stated(arrangement).map_or(PLAIN, |_| arrangement)
+/// Nine for ten, and ten for nine.
+fn other_number(sectors: u32) -> u32 {
+    NINE + TEN - sectors
+}
+
+/// A number of tracks whose length fits both numbers of sectors, at most
+/// `max_tracks` of either: 23,040 bytes are 9 tracks of ten and 10 of nine.
+fn tracks_fitting_both(random: &mut Random, max_tracks: usize, sectors: u32) -> Option<usize> {
+    let most = max_tracks / TEN as usize;
+    (most > 0).then(|| other_number(sectors) as usize * random.between(1, most))
+}
+
+/// A plain image in the arrangement stated; a wrong length or number leaves it.
+fn arranged(plain: Vec<u8>, sectors: u32, arrangement: u32) -> Vec<u8> {
+    crate::rearranged(&plain, sectors, PLAIN, arrangement).unwrap_or(plain)
 }

@@ -1,8 +1,9 @@
 //! The history: a plain book of a run, and what it claims at each moment.
 //!
 //! The claims hold for any program that follows the document, so the calls
-//! that they speak of are taken from a `Program`. A run has one arrangement
-//! throughout: the book is told it at the start and keeps it.
+//! that they speak of are taken from a `Program`. A run has one number of
+//! sectors a track and one arrangement throughout: the book is told both at the
+//! start and keeps them.
 
 use crate::command::Command;
 use crate::disc::{word, Disc, Sector, FREE_COUNT};
@@ -14,12 +15,20 @@ const WHOLE_PAGE: usize = 65_536;
 
 /// A program whose calls the claims of the book speak of.
 pub trait Program {
-    fn read(&self, image: &[u8], arrangement: u32, name: &[u8], buffer: &mut [u8]) -> Reading;
+    fn read(
+        &self,
+        image: &[u8],
+        sectors: u32,
+        arrangement: u32,
+        name: &[u8],
+        buffer: &mut [u8],
+    ) -> Reading;
 
     #[allow(clippy::too_many_arguments)]
     fn save(
         &self,
         image: &mut [u8],
+        sectors: u32,
         arrangement: u32,
         name: &[u8],
         page: u32,
@@ -34,13 +43,21 @@ pub trait Program {
 pub struct Reference;
 
 impl Program for Reference {
-    fn read(&self, image: &[u8], arrangement: u32, name: &[u8], buffer: &mut [u8]) -> Reading {
-        read(image, arrangement, name, buffer)
+    fn read(
+        &self,
+        image: &[u8],
+        sectors: u32,
+        arrangement: u32,
+        name: &[u8],
+        buffer: &mut [u8],
+    ) -> Reading {
+        read(image, sectors, arrangement, name, buffer)
     }
 
     fn save(
         &self,
         image: &mut [u8],
+        sectors: u32,
         arrangement: u32,
         name: &[u8],
         page: u32,
@@ -48,7 +65,16 @@ impl Program for Reference {
         transfer: u16,
         sheet: &[u8],
     ) -> u32 {
-        save(image, arrangement, name, page, start, transfer, sheet)
+        save(
+            image,
+            sectors,
+            arrangement,
+            name,
+            page,
+            start,
+            transfer,
+            sheet,
+        )
     }
 }
 
@@ -72,6 +98,7 @@ pub struct StandingFile {
 /// was accepted; it never looks at the image again.
 #[derive(Debug, Clone, PartialEq, Eq)]
 pub struct Book {
+    sectors: u32,
     arrangement: u32,
     sectors_on_disc: usize,
     directory_at_start: usize,
@@ -81,22 +108,28 @@ pub struct Book {
 }
 
 impl Book {
-    /// The book of a run that starts with this image, arranged like this
+    /// The book of a run that starts with this image, with these numbers stated
     /// throughout; none if the image isn't sound.
-    pub fn start(image: &[u8], arrangement: u32) -> Option<Book> {
-        let checked = check(image, arrangement);
+    pub fn start(image: &[u8], sectors: u32, arrangement: u32) -> Option<Book> {
+        let checked = check(image, sectors, arrangement);
         if (checked.number, checked.rule) != (0, 0) {
             return None;
         }
-        let disc = Disc::open(image, arrangement).ok()?;
-        let files = files_at_start(image, arrangement);
+        let disc = Disc::open(image, sectors, arrangement).ok()?;
+        let files = files_at_start(image, sectors, arrangement);
         Some(Book {
+            sectors,
             arrangement,
-            sectors_on_disc: image.len() / 256,
+            sectors_on_disc: disc.sectors(),
             directory_at_start: follow(disc, pointer(disc.system(), 0x12))?.len(),
             peak: files.len(),
             files,
         })
+    }
+
+    /// The number of sectors a track that the run states.
+    pub fn sectors(&self) -> u32 {
+        self.sectors
     }
 
     pub fn arrangement(&self) -> u32 {
@@ -117,8 +150,8 @@ impl Book {
         self.files.iter().map(|file| file.sectors).sum()
     }
 
-    /// The free-sector sum, 10T - 1 - directory - files. Sound runs never
-    /// make it negative.
+    /// The free-sector sum: all sectors, 10T or 9T, - 1 - directory - files.
+    /// Sound runs never make it negative.
     pub fn free(&self) -> usize {
         (self.sectors_on_disc - 1).saturating_sub(self.directory() + self.file_sectors())
     }
@@ -206,20 +239,21 @@ fn stored(typed: &[u8]) -> [u8; 9] {
     name
 }
 
-fn files_at_start(image: &[u8], arrangement: u32) -> Vec<StandingFile> {
+fn files_at_start(image: &[u8], sectors: u32, arrangement: u32) -> Vec<StandingFile> {
     let mut records = vec![0; 14 + 13 * SLOTS_PER_DIRECTORY_SECTOR * image.len() / 256 + 1];
-    let listed = list(image, arrangement, &mut records);
+    let listed = list(image, sectors, arrangement, &mut records);
     records[14..listed.length as usize - 1]
         .chunks_exact(13)
-        .map(|record| file_at_start(image, arrangement, record))
+        .map(|record| file_at_start(image, sectors, arrangement, record))
         .collect()
 }
 
-fn file_at_start(image: &[u8], arrangement: u32, record: &[u8]) -> StandingFile {
+fn file_at_start(image: &[u8], sectors: u32, arrangement: u32, record: &[u8]) -> StandingFile {
     let mut name = [0; 9];
     name.copy_from_slice(&record[1..10]);
     let mut buffer = vec![0; WHOLE_PAGE];
-    let reading = read(image, arrangement, &typed_form(&name), &mut buffer);
+    let typed = typed_form(&name);
+    let reading = read(image, sectors, arrangement, &typed, &mut buffer);
     StandingFile {
         name,
         sectors: usize::from(word(record, 10)),
@@ -243,12 +277,12 @@ fn follow(disc: Disc<'_>, head: (u8, u8)) -> Option<Vec<usize>> {
     let mut met = Vec::new();
     let (mut track, mut sector) = head;
     while sector != 0 {
-        let number = usize::from(track) * 10 + usize::from(sector) - 1;
-        if sector > 10 || number >= disc.sectors() || met.len() == disc.sectors() {
+        let on_disc = disc.on_disc(u32::from(track), u32::from(sector))?;
+        if met.len() == disc.sectors() {
             return None;
         }
-        met.push(number);
-        let bytes = disc.sector(Sector::numbered(number));
+        met.push(on_disc.number());
+        let bytes = disc.sector(on_disc);
         (track, sector) = (bytes[0], bytes[1]);
     }
     Some(met)
@@ -289,7 +323,7 @@ fn places(disc: Disc<'_>) -> Option<Places> {
 /// Every sector in exactly one place, and the free sectors as the sum says.
 /// The part of `moment_fault` that calls nothing.
 pub fn places_fault(image: &[u8], book: &Book) -> Option<String> {
-    let disc = match Disc::open(image, book.arrangement) {
+    let disc = match Disc::open(image, book.sectors, book.arrangement) {
         Ok(disc) => disc,
         Err(_) => return Some("the image is of no right size".to_string()),
     };
@@ -341,7 +375,8 @@ fn room_fault(program: &impl Program, image: &[u8], book: &Book) -> Option<Strin
         .filter(|&length| length <= WHOLE_PAGE)
         .find_map(|length| {
             let (mut copy, sheet) = (image.to_vec(), vec![7; length]);
-            let answer = program.save(&mut copy, book.arrangement, &name, 0, 0, 0, &sheet);
+            let (sectors, arrangement) = (book.sectors, book.arrangement);
+            let answer = program.save(&mut copy, sectors, arrangement, &name, 0, 0, 0, &sheet);
             let expected = if book.need(length) <= free { 0 } else { 8 };
             (answer != expected)
                 .then(|| format!("save of {length} bytes with {free} free: {answer}"))
@@ -358,20 +393,21 @@ fn readings_fault(program: &impl Program, image: &[u8], book: &Book) -> Option<S
         let lengths = [0, length - 1, length, length + 3];
         lengths
             .iter()
-            .find_map(|&lent| reading_fault(program, image, book.arrangement, file, lent))
+            .find_map(|&lent| reading_fault(program, image, book, file, lent))
     })
 }
 
 fn reading_fault(
     program: &impl Program,
     image: &[u8],
-    arrangement: u32,
+    book: &Book,
     file: &StandingFile,
     lent: usize,
 ) -> Option<String> {
     const FILL: u8 = 0xA5;
     let mut buffer = vec![FILL; lent];
-    let answer = program.read(image, arrangement, &typed_form(&file.name), &mut buffer);
+    let typed = typed_form(&file.name);
+    let answer = program.read(image, book.sectors, book.arrangement, &typed, &mut buffer);
     let mut expected_buffer = vec![FILL; lent];
     let expected = match &file.reading {
         BookReading::NotPlain => refused(9),
@@ -400,7 +436,8 @@ fn refused(number: u32) -> Reading {
 /// Legal names that are not in the book give 4.
 fn absent_fault(program: &impl Program, image: &[u8], book: &Book) -> Option<String> {
     absent_names(book).find_map(|name| {
-        let answer = program.read(image, book.arrangement, &name, &mut [0; 8]);
+        let (sectors, arrangement) = (book.sectors, book.arrangement);
+        let answer = program.read(image, sectors, arrangement, &name, &mut [0; 8]);
         let typed = String::from_utf8_lossy(&name);
         (answer != refused(4)).then(|| format!("absent '{typed}' gives {answer:?}"))
     })

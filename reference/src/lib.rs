@@ -4,9 +4,10 @@
 //! other number is a refusal and leaves all lent memory as it was. Any bytes
 //! may be handed in.
 //!
-//! Each call on an image is told how the image is arranged: 0 is plain, the
-//! sectors of each track by number; 1 is moved, in passing order. Any other
-//! number is refused with 1, like a wrong length.
+//! Each call on an image is told how many sectors a track has, 9 or 10, and how
+//! they are arranged in the image: 0 is plain, the sectors of each track by
+//! number; 1 is moved, in passing order, which only discs of ten have. Any
+//! other numbers are refused with 1, like a wrong length.
 
 #![forbid(unsafe_code)]
 
@@ -22,7 +23,9 @@ mod name;
 mod refusal;
 mod save;
 
-use disc::Disc;
+use disc::{Disc, DiscMut};
+use refusal::Refusal;
+use std::ops::Range;
 
 /// The check's answer: `rule` is the lowest broken rule, or 0 when sound.
 #[derive(Debug, Clone, Copy, PartialEq, Eq)]
@@ -50,8 +53,8 @@ pub struct Reading {
 }
 
 /// Checks the eight rules of a sound image.
-pub fn check(image: &[u8], arrangement: u32) -> Checked {
-    match Disc::open(image, arrangement) {
+pub fn check(image: &[u8], sectors: u32, arrangement: u32) -> Checked {
+    match Disc::open(image, sectors, arrangement) {
         Ok(disc) => Checked {
             number: 0,
             rule: check::broken_rule(disc),
@@ -64,8 +67,9 @@ pub fn check(image: &[u8], arrangement: u32) -> Checked {
 }
 
 /// Writes the disc's and the files' records to the front of the buffer.
-pub fn list(image: &[u8], arrangement: u32, buffer: &mut [u8]) -> Listed {
-    match commands::list(image, arrangement, buffer) {
+pub fn list(image: &[u8], sectors: u32, arrangement: u32, buffer: &mut [u8]) -> Listed {
+    let disc = Disc::open(image, sectors, arrangement);
+    match disc.and_then(|disc| commands::list(disc, buffer)) {
         Ok(length) => Listed {
             number: 0,
             length: length as u32,
@@ -78,8 +82,16 @@ pub fn list(image: &[u8], arrangement: u32, buffer: &mut [u8]) -> Listed {
 }
 
 /// Reads a file's load module, its bytes to the front of the buffer.
-pub fn read(image: &[u8], arrangement: u32, name: &[u8], buffer: &mut [u8]) -> Reading {
-    commands::read(image, arrangement, name, buffer).unwrap_or_else(|refusal| Reading {
+pub fn read(
+    image: &[u8],
+    sectors: u32,
+    arrangement: u32,
+    name: &[u8],
+    buffer: &mut [u8],
+) -> Reading {
+    let disc = Disc::open(image, sectors, arrangement);
+    let reading = disc.and_then(|disc| commands::read(disc, name, buffer));
+    reading.unwrap_or_else(|refusal| Reading {
         number: refusal.number(),
         page: 0,
         start: 0,
@@ -90,8 +102,10 @@ pub fn read(image: &[u8], arrangement: u32, name: &[u8], buffer: &mut [u8]) -> R
 }
 
 /// Saves a sheet of bytes as a new, unprotected file.
+#[allow(clippy::too_many_arguments)]
 pub fn save(
     image: &mut [u8],
+    sectors: u32,
     arrangement: u32,
     name: &[u8],
     page: u32,
@@ -99,55 +113,81 @@ pub fn save(
     transfer: u16,
     sheet: &[u8],
 ) -> u32 {
-    refusal::number(save::save(
-        image,
-        arrangement,
-        name,
-        page,
-        start,
-        transfer,
-        sheet,
-    ))
+    writing(image, sectors, arrangement, |disc| {
+        save::save(disc, name, page, start, transfer, sheet)
+    })
 }
 
 /// Deletes an unprotected file; its sectors go to the head of the free chain.
-pub fn delete(image: &mut [u8], arrangement: u32, name: &[u8]) -> u32 {
-    refusal::number(commands::delete(image, arrangement, name))
+pub fn delete(image: &mut [u8], sectors: u32, arrangement: u32, name: &[u8]) -> u32 {
+    writing(image, sectors, arrangement, |disc| {
+        commands::delete(disc, name)
+    })
 }
 
 /// Gives an unprotected file a name that does not stand yet.
-pub fn rename(image: &mut [u8], arrangement: u32, old: &[u8], new: &[u8]) -> u32 {
-    refusal::number(commands::rename(image, arrangement, old, new))
+pub fn rename(image: &mut [u8], sectors: u32, arrangement: u32, old: &[u8], new: &[u8]) -> u32 {
+    writing(image, sectors, arrangement, |disc| {
+        commands::rename(disc, old, new)
+    })
 }
 
 /// Protects a file, or with 0 lifts its protection.
-pub fn protect(image: &mut [u8], arrangement: u32, name: &[u8], on: u32) -> u32 {
-    refusal::number(commands::protect(image, arrangement, name, on))
+pub fn protect(image: &mut [u8], sectors: u32, arrangement: u32, name: &[u8], on: u32) -> u32 {
+    writing(image, sectors, arrangement, |disc| {
+        commands::protect(disc, name, on)
+    })
 }
 
 /// Makes the whole image a blank data disc.
-pub fn blank(image: &mut [u8], arrangement: u32, name: &[u8]) -> u32 {
-    refusal::number(commands::blank(image, arrangement, name))
+pub fn blank(image: &mut [u8], sectors: u32, arrangement: u32, name: &[u8]) -> u32 {
+    writing(image, sectors, arrangement, |disc| {
+        commands::blank(disc, name)
+    })
+}
+
+/// The number of a command that may change the image and answers nothing else.
+fn writing(
+    image: &mut [u8],
+    sectors: u32,
+    arrangement: u32,
+    command: impl FnOnce(DiscMut<'_>) -> Result<(), Refusal>,
+) -> u32 {
+    refusal::number(DiscMut::open(image, sectors, arrangement).and_then(command))
 }
 
 /// The 254 bytes after a sector's link, in the image itself; empty if refused.
-pub fn view(image: &[u8], arrangement: u32, track: u32, sector: u32) -> &[u8] {
-    commands::view(image, arrangement, track, sector).map_or(&[], |shown| &image[shown])
+pub fn view(image: &[u8], sectors: u32, arrangement: u32, track: u32, sector: u32) -> &[u8] {
+    viewed(image, sectors, arrangement, track, sector).map_or(&[], |shown| &image[shown])
 }
 
 /// The number that belongs to a view with the same arguments.
-pub fn view_number(image: &[u8], arrangement: u32, track: u32, sector: u32) -> u32 {
-    refusal::number(commands::view(image, arrangement, track, sector).map(|_| ()))
+pub fn view_number(image: &[u8], sectors: u32, arrangement: u32, track: u32, sector: u32) -> u32 {
+    refusal::number(viewed(image, sectors, arrangement, track, sector).map(|_| ()))
 }
 
 /// Where in the image the bytes of a view with the same arguments begin; 0 if
 /// refused, since a link stands before every view.
-pub fn view_start(image: &[u8], arrangement: u32, track: u32, sector: u32) -> u32 {
-    commands::view(image, arrangement, track, sector).map_or(0, |shown| shown.start as u32)
+pub fn view_start(image: &[u8], sectors: u32, arrangement: u32, track: u32, sector: u32) -> u32 {
+    viewed(image, sectors, arrangement, track, sector).map_or(0, |shown| shown.start as u32)
+}
+
+fn viewed(
+    image: &[u8],
+    sectors: u32,
+    arrangement: u32,
+    track: u32,
+    sector: u32,
+) -> Result<Range<usize>, Refusal> {
+    let disc = Disc::open(image, sectors, arrangement)?;
+    commands::view(disc, track, sector)
 }
 
 /// The sectors of an image arranged as `from`, in the arrangement `to`; nothing
 /// for a wrong length or number.
-pub fn rearranged(image: &[u8], from: u32, to: u32) -> Option<Vec<u8>> {
-    commands::rearranged(image, from, to).ok()
+pub fn rearranged(image: &[u8], sectors: u32, from: u32, to: u32) -> Option<Vec<u8>> {
+    let disc = Disc::open(image, sectors, from).ok()?;
+    let mut other = vec![0; image.len()];
+    commands::rearrange(disc, DiscMut::open(&mut other, sectors, to).ok()?);
+    Some(other)
 }

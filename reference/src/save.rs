@@ -20,15 +20,13 @@ struct Plan {
 }
 
 pub fn save(
-    image: &mut [u8],
-    arrangement: u32,
+    mut disc: DiscMut<'_>,
     name: &[u8],
     page: u32,
     start: u16,
     transfer: u16,
     sheet: &[u8],
 ) -> Result<(), Refusal> {
-    let mut disc = DiscMut::open(image, arrangement)?;
     let name = Name::of_file(name).ok_or(Refusal::Name)?;
     let header = Header::new(page, start, transfer, sheet.len()).ok_or(Refusal::Module)?;
     require_sound(disc.now())?;
@@ -76,21 +74,22 @@ fn write_file(disc: &mut DiscMut<'_>, file: &[Sector], header: &Header, sheet: &
         left = write_sector(disc.sector_mut(sector), position, header, left);
         let link = file
             .get(position + 1)
-            .map_or(Address::END, |next| next.address());
+            .map_or(Address::END, |&next| disc.now().address(next));
         disc.put_link(sector, link);
     }
 }
 
 fn write_entry(disc: &mut DiscMut<'_>, plan: &Plan, name: Name) {
     if let Some(last) = plan.grows_from {
+        let grown = disc.now().address(plan.slot.sector);
         disc.sector_mut(plan.slot.sector).fill(0);
-        disc.put_link(last, plan.slot.sector.address());
+        disc.put_link(last, grown);
     }
     let entry = Entry {
         name,
         length: plan.file.len() as u16,
-        first: plan.file[0].address(),
-        last: plan.file[plan.file.len() - 1].address(),
+        first: disc.now().address(plan.file[0]),
+        last: disc.now().address(plan.file[plan.file.len() - 1]),
         attribute: UNPROTECTED,
     };
     directory::fill_slot(disc, plan.slot, &entry);

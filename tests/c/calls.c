@@ -1,15 +1,23 @@
 #include "calls.h"
 
+#include <stdio.h>
 #include <string.h>
 
 #include "lent.h"
 #include "report.h"
 
 /* What a call takes of a lent image. */
-#define ON(image) (image).bytes, (image).length, stated
+#define ON(image) (image).bytes, (image).length, STATED
 
-uint32_t stated = TANDOS_PLAIN;
+struct stated stated = { TANDOS_TEN, TANDOS_PLAIN };
 uint8_t answer[BUFFER_MAX];
+
+void use_kind(uint32_t sectors, uint32_t arrangement)
+{
+    disc_sectors = sectors;
+    stated.sectors = sectors;
+    stated.arrangement = arrangement;
+}
 
 struct text text(const char *characters)
 {
@@ -29,7 +37,7 @@ static struct lent lend_disc(const struct disc *disc)
 {
     static uint8_t image[DISC_MAX];
 
-    arrange(image, disc->bytes, disc->length, stated);
+    arrange(image, disc->bytes, disc->length, stated.arrangement);
     return lend(image, disc->length);
 }
 
@@ -42,7 +50,7 @@ static struct lent lend_text(struct text text)
 static void take_back(const char *what, struct disc *disc, struct lent *image,
                       uint32_t number)
 {
-    arrange_back(disc->bytes, image->bytes, disc->length, stated);
+    arrange_back(disc->bytes, image->bytes, disc->length, stated.arrangement);
     expect_kept_beyond(number == TANDOS_DONE ? disc->length : 0, what, image);
 }
 
@@ -208,8 +216,27 @@ void expect_disc(const char *what, const struct disc *expected,
     expect_bytes(what, expected->bytes, found->bytes, expected->length);
 }
 
+uint32_t try_step(struct disc *disc, unsigned step)
+{
+    char name[8], other[8];
+
+    sprintf(name, "F%u", step * 7 % 23);
+    sprintf(other, "F%u", step * 11 % 23);
+    switch (step % 9) {
+    case 0: case 1: case 2: case 3:
+        return save_at_2000(disc, name, bytes(sheet, 1 + step * 97 % 800));
+    case 4: return try_delete(disc, text(name));
+    case 5: return try_rename(disc, text(name), text(other));
+    case 6: return try_protect(disc, text(name), step % 18 < 9);
+    case 7: return try_read(disc, text(name), BUFFER_MAX).number;
+    default: return try_list(disc, 9752).number;
+    }
+}
+
 void expect_refused_1(struct disc *disc)
 {
+    struct disc expected = *disc;
+
     EXPECT_NUMBER(1, try_check(disc).number);
     EXPECT_NUMBER(1, try_list(disc, 9752).number);
     EXPECT_NUMBER(1, try_read(disc, text("A"), 245).number);
@@ -219,4 +246,21 @@ void expect_refused_1(struct disc *disc)
     EXPECT_NUMBER(1, try_protect(disc, text("A"), 1));
     EXPECT_NUMBER(1, try_blank(disc, text("DISC")));
     EXPECT_NUMBER(1, try_view_number(disc, 0, 1));
+    expect_disc("disc after refusals", &expected, disc);
+}
+
+void expect_refused_1_first(struct disc *disc)
+{
+    struct disc expected = *disc;
+
+    EXPECT_NUMBER(1, try_check(disc).number);
+    EXPECT_NUMBER(1, try_list(disc, 0).number);
+    EXPECT_NUMBER(1, try_read(disc, text("X."), 0).number);
+    EXPECT_NUMBER(1, try_save(disc, text("X."), 8, 0, 0, bytes(sheet, 0)));
+    EXPECT_NUMBER(1, try_delete(disc, text("X.")));
+    EXPECT_NUMBER(1, try_rename(disc, text("X."), text("A")));
+    EXPECT_NUMBER(1, try_protect(disc, text("X."), 1));
+    EXPECT_NUMBER(1, try_blank(disc, text("A.B")));
+    EXPECT_NUMBER(1, try_view_number(disc, 255, 11));
+    expect_disc("disc after refusals", &expected, disc);
 }

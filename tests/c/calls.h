@@ -10,9 +10,20 @@
 #include "discs.h"
 #include "tandos.h"
 
-/* The arrangement that these calls state. The image that they lend is the disc
- * in that arrangement. */
-extern uint32_t stated;
+/* What these calls state of an image. The image that they lend is the disc in
+ * the arrangement stated. */
+struct stated {
+    uint32_t sectors, arrangement;
+};
+
+extern struct stated stated;
+
+/* Both, as a call takes them. */
+#define STATED stated.sectors, stated.arrangement
+
+/* From here on discs are made with so many sectors a track, and these calls
+ * state them so and in this arrangement. */
+void use_kind(uint32_t sectors, uint32_t arrangement);
 
 /* A name, sheet or buffer to lend. */
 struct text {
@@ -48,7 +59,14 @@ uint32_t save_at_2000(struct disc *disc, const char *name, struct text sheet);
 void expect_disc(const char *what, const struct disc *expected,
                  const struct disc *found);
 
-/* Expects 1 of every call, each of which a disc with A and no C would allow. */
+/* The step-th command of a run in which every command comes; its number. */
+uint32_t try_step(struct disc *disc, unsigned step);
+
+/* Expects 1 of every call, each of which a disc with A and no C would allow,
+ * and the disc as it was. */
 void expect_refused_1(struct disc *disc);
+
+/* The same where other refusals hold as well, on an image that is unsound. */
+void expect_refused_1_first(struct disc *disc);
 
 #endif

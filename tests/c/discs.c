@@ -3,7 +3,18 @@
 #include <stdio.h>
 #include <string.h>
 
+unsigned disc_sectors = 10;
 uint8_t sheet[SHEET_BYTES];
+
+unsigned of_kind(unsigned ten, unsigned nine)
+{
+    return disc_sectors == 9 ? nine : ten;
+}
+
+size_t track_size(void)
+{
+    return 256 * (size_t)disc_sectors;
+}
 
 void make_sheet(void)
 {
@@ -27,20 +38,21 @@ struct place place(unsigned track, unsigned sector)
 static const size_t moved_places[] = { 0, 7, 4, 1, 8, 5, 2, 9, 6, 3 };
 
 /* Where the sector of a plain image that begins at a byte begins in an image
- * of the arrangement. Only 1 is not plain. */
+ * of the arrangement. Only 1, of ten sectors a track, is not plain. */
 static size_t arranged_start(size_t plain_start, uint32_t arrangement)
 {
     size_t track = plain_start / 2560;
     size_t place = plain_start % 2560 / 256;
 
-    return arrangement == 1 ? 2560 * track + 256 * moved_places[place]
-                            : plain_start;
+    if (arrangement != 1 || disc_sectors != 10)
+        return plain_start;
+    return 2560 * track + 256 * moved_places[place];
 }
 
 void arrange(uint8_t *image, const uint8_t *plain, size_t length,
              uint32_t arrangement)
 {
-    size_t whole = length - length % 2560;
+    size_t whole = length - length % track_size();
     size_t start;
 
     for (start = 0; start < whole; start += 256)
@@ -51,7 +63,7 @@ void arrange(uint8_t *image, const uint8_t *plain, size_t length,
 void arrange_back(uint8_t *plain, const uint8_t *image, size_t length,
                   uint32_t arrangement)
 {
-    size_t whole = length - length % 2560;
+    size_t whole = length - length % track_size();
     size_t start;
 
     for (start = 0; start < whole; start += 256)
@@ -61,15 +73,19 @@ void arrange_back(uint8_t *plain, const uint8_t *image, size_t length,
 
 struct place free_place(unsigned k)
 {
-    static const unsigned passed[] = { 1, 4, 7, 10, 3, 6, 9, 2, 5, 8 };
+    static const unsigned of_ten[] = { 1, 4, 7, 10, 3, 6, 9, 2, 5, 8 };
+    static const unsigned of_nine[] = { 1, 4, 7, 2, 5, 8, 3, 6, 9 };
+    const unsigned *passed = disc_sectors == 9 ? of_nine : of_ten;
 
     /* 0/1 and 0/4 come before the free chain. */
-    return place((k + 2) / 10, passed[(k + 2) % 10]);
+    return place((k + 2) / disc_sectors, passed[(k + 2) % disc_sectors]);
 }
 
 uint8_t *at(struct disc *disc, struct place place, unsigned byte)
 {
-    return disc->bytes + 256 * (10 * place.track + place.sector - 1) + byte;
+    unsigned number = disc_sectors * place.track + place.sector - 1;
+
+    return disc->bytes + 256 * number + byte;
 }
 
 static void put_word(uint8_t *to, unsigned word)
@@ -164,11 +180,11 @@ void put_module(struct disc *disc, unsigned k, struct module module)
 
 void make_blank(struct disc *disc, unsigned tracks, const char *name)
 {
-    unsigned free_count = 10 * tracks - 2;
+    unsigned free_count = disc_sectors * tracks - 2;
     unsigned k;
 
     memset(disc->bytes, 0, sizeof disc->bytes);
-    disc->length = 2560 * (size_t)tracks;
+    disc->length = track_size() * tracks;
     put_free_pointer(disc, place(0, 7));
     put_pair(disc->bytes + 0x12, place(0, 4));
     put_counts(disc, free_count, 0);
@@ -182,9 +198,10 @@ void make_pieces(struct disc *disc)
 {
     make_blank(disc, 40, "PIECES   ");
     put_module(disc, 0, module_at_2000(300));
-    put_entry(disc, place(0, 4), 0, "THU   PCS", 2, place(0, 7), place(0, 10));
-    put_free_pointer(disc, place(0, 3));
-    put_counts(disc, 396, 2);
+    put_entry(disc, place(0, 4), 0, "THU   PCS", 2, place(0, 7),
+              place(0, of_kind(10, 2)));
+    put_free_pointer(disc, place(0, of_kind(3, 5)));
+    put_counts(disc, of_kind(396, 356), 2);
 }
 
 void make_small(struct disc *disc)
@@ -193,15 +210,16 @@ void make_small(struct disc *disc)
     put_module(disc, 0, module_at_2000(245));
     put_entry(disc, place(0, 4), 0, "A        ", 1, place(0, 7), place(0, 7));
     put_module(disc, 1, module_at_2000(300));
-    put_entry(disc, place(0, 4), 1, "B        ", 2, place(0, 10), place(0, 3));
-    put_free_pointer(disc, place(0, 6));
-    put_counts(disc, 5, 3);
+    put_entry(disc, place(0, 4), 1, "B        ", 2, place(0, of_kind(10, 2)),
+              place(0, of_kind(3, 5)));
+    put_free_pointer(disc, place(0, of_kind(6, 8)));
+    put_counts(disc, of_kind(5, 4), 3);
 }
 
 void make_unsound(struct disc *disc)
 {
     make_small(disc);
-    put_counts(disc, 5, 4);
+    put_counts(disc, of_kind(5, 4), 4);
 }
 
 void make_fifteen(struct disc *disc)
@@ -209,32 +227,34 @@ void make_fifteen(struct disc *disc)
     char name[10];
     unsigned i;
 
-    make_blank(disc, 2, "FIFTEEN  ");
+    make_blank(disc, of_kind(2, 3), "FIFTEEN  ");
     for (i = 0; i < 15; i++) {
         sprintf(name, "F%02u      ", i % 100);
         put_module(disc, i, module_at_2000(1));
         put_entry(disc, place(0, 4), i, name, 1, free_place(i), free_place(i));
     }
-    put_free_pointer(disc, place(1, 2));
-    put_counts(disc, 3, 15);
+    put_free_pointer(disc, free_place(15));
+    put_counts(disc, of_kind(3, 10), 15);
 }
 
 void make_sixteen(struct disc *disc)
 {
     make_fifteen(disc);
     put_module(disc, 15, module_at_2000(1));
-    put_link(disc, place(0, 4), place(1, 5));
-    put_link(disc, place(1, 5), place(0, 0));
-    put_entry(disc, place(1, 5), 0, "F15      ", 1, place(1, 2), place(1, 2));
-    put_free_pointer(disc, place(1, 8));
-    put_counts(disc, 1, 16);
+    put_link(disc, place(0, 4), free_place(16));
+    put_link(disc, free_place(16), place(0, 0));
+    put_entry(disc, free_place(16), 0, "F15      ", 1, free_place(15),
+              free_place(15));
+    put_free_pointer(disc, free_place(17));
+    put_counts(disc, of_kind(1, 8), 16);
 }
 
 void make_full(struct disc *disc)
 {
     make_blank(disc, 1, "FULL     ");
-    put_module(disc, 0, module_at_2000(2016));
-    put_entry(disc, place(0, 4), 0, "X        ", 8, place(0, 7), place(0, 8));
+    put_module(disc, 0, module_at_2000(of_kind(2016, 1763)));
+    put_entry(disc, place(0, 4), 0, "X        ", of_kind(8, 7), place(0, 7),
+              place(0, of_kind(8, 9)));
     put_free_pointer(disc, place(0, 0));
-    put_counts(disc, 0, 8);
+    put_counts(disc, 0, of_kind(8, 7));
 }

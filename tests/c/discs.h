@@ -11,6 +11,15 @@
 /* One track more than any disc has, for images that are too long. */
 #define DISC_MAX (81 * 2560)
 
+/* Sectors a track of all discs below, 9 or 10. */
+extern unsigned disc_sectors;
+
+/* What was worked out for ten sectors a track, or for nine. */
+unsigned of_kind(unsigned ten, unsigned nine);
+
+/* Bytes of a track. */
+size_t track_size(void);
+
 /* A disc by its plain image. */
 struct disc {
     size_t length;
@@ -18,7 +27,7 @@ struct disc {
 };
 
 /* The image of a disc in an arrangement, and back. Bytes beyond the last whole
- * track stay where they stand. */
+ * track stay where they stand, as do all of a disc of nine sectors a track. */
 void arrange(uint8_t *image, const uint8_t *plain, size_t length,
              uint32_t arrangement);
 void arrange_back(uint8_t *plain, const uint8_t *image, size_t length,
@@ -31,7 +40,8 @@ struct place {
 
 struct place place(unsigned track, unsigned sector);
 
-/* The k-th sector of a blank disc's free chain, from 0: 0/7, 0/10, 0/3, .. */
+/* The k-th sector of a blank disc's free chain, from 0: 0/7, 0/10, 0/3, .. or
+ * 0/7, 0/2, 0/5, .. */
 struct place free_place(unsigned k);
 
 /* Byte `byte` of a sector. */
@@ -66,22 +76,24 @@ void make_blank(struct disc *disc, unsigned tracks, const char *name);
 /* 40 tracks, PIECES, with THU.PCS of 300 bytes: the rules' worked example. */
 void make_pieces(struct disc *disc);
 
-/* One track: A at 0/7 (245 bytes), B at 0/10 and 0/3 (300 bytes), and the free
- * chain 0/6, 0/9, 0/2, 0/5, 0/8. */
+/* One track: A of 245 bytes in the first sector of the blank chain, B of 300
+ * bytes in the next two, and the rest free. These are 0/7; 0/10, 0/3; 0/6, 0/9,
+ * 0/2, 0/5, 0/8, or of nine 0/7; 0/2, 0/5; 0/8, 0/3, 0/6, 0/9. */
 void make_small(struct disc *disc);
 
 /* The small disc with its used count one too high: rule 7 is broken. */
 void make_unsound(struct disc *disc);
 
-/* Two tracks: F00 to F14, one sector of 1 byte each, which fill the directory's
- * 15 slots. Three sectors are free: 1/2, 1/5, 1/8. */
+/* F00 to F14, one sector of 1 byte each, which fill the directory's 15 slots.
+ * Of ten two tracks, with three free sectors: 1/2, 1/5, 1/8. Of nine three
+ * tracks, with ten: 1/9, 2/1, 2/4 and on. */
 void make_fifteen(struct disc *disc);
 
-/* That disc after a 16th file, F15: its sector is 1/2, the directory's new one
- * 1/5, and 1/8 is free. */
+/* That disc after a 16th file, F15: of the sectors that were free it has the
+ * first, the directory the second. */
 void make_sixteen(struct disc *disc);
 
-/* One track, full: X of 2,016 bytes in 8 sectors. */
+/* One track, full: X of 2,016 bytes in 8 sectors, or of nine 1,763 in 7. */
 void make_full(struct disc *disc);
 
 /* 65,537 bytes of sheet, one more than any sheet has. */

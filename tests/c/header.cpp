@@ -3,23 +3,27 @@
 #include "tandos.h"
 #include "tandos.h"
 
-static uint8_t bytes[TANDOS_IMAGE_SIZE(1)];
+static uint8_t bytes[TANDOS_IMAGE_SIZE(1, TANDOS_TEN)];
+
+static uint32_t broken_rule(uint32_t arrangement)
+{
+    return tandos_check(bytes, sizeof bytes, TANDOS_TEN, arrangement).rule;
+}
 
 // What TANDOS_ON made is moved, and nothing else.
 static int is_moved(void)
 {
-    return tandos_check(bytes, sizeof bytes, TANDOS_MOVED).rule == 0 &&
-           tandos_check(bytes, sizeof bytes, TANDOS_PLAIN).rule != 0;
+    return broken_rule(TANDOS_MOVED) == 0 && broken_rule(TANDOS_PLAIN) != 0;
 }
 
 int main(void)
 {
-    tandos_image disc = { bytes, sizeof bytes, TANDOS_MOVED };
+    tandos_image disc = { bytes, sizeof bytes, TANDOS_TEN, TANDOS_MOVED };
     const tandos_image *lent = &disc;
     const char *name = "A";
     uint32_t done = tandos_blank(TANDOS_ON(disc), TANDOS_TEXT("DISC"));
     uint32_t absent = tandos_delete(TANDOS_ON(*lent), TANDOS_TEXT(name));
-    uint32_t refused = tandos_check(NULL, 0, TANDOS_PLAIN).number;
+    uint32_t refused = tandos_check(NULL, 0, TANDOS_NINE, TANDOS_PLAIN).number;
 
     return done == TANDOS_DONE && absent == TANDOS_ABSENT && is_moved() &&
            tandos_refusal_name(refused)[0] == 'S' ? 0 : 1;

@@ -5,10 +5,13 @@
 #include "report.h"
 #include "tests.h"
 
-static const struct {
+struct test {
     const char *name;
     void (*run)(void);
-} tests[] = {
+};
+
+/* For each kind of image. */
+static const struct test tests[] = {
     { "blank", test_blank },
     { "names", test_names },
     { "save", test_save },
@@ -23,20 +26,36 @@ static const struct {
     { "sizes", test_sizes },
     { "order", test_order },
     { "arrangement", test_arrangement },
-    { "text", test_text },
     { "wide", test_wide }
 };
 
-static void run_tests(uint32_t arrangement, const char *mark)
+/* These choose the kind of an image themselves, or have none. */
+static const struct test tests_once[] = {
+    { "sectors", test_sectors },
+    { "nine", test_nine },
+    { "text", test_text }
+};
+
+static void run_tests(uint32_t sectors, uint32_t arrangement, const char *mark)
 {
     static char name[40];
     size_t i;
 
     for (i = 0; i < sizeof tests / sizeof tests[0]; i++) {
-        stated = arrangement;
+        use_kind(sectors, arrangement);
         sprintf(name, "%s%s", tests[i].name, mark);
         begin_test(name);
         tests[i].run();
+    }
+}
+
+static void run_tests_once(void)
+{
+    size_t i;
+
+    for (i = 0; i < sizeof tests_once / sizeof tests_once[0]; i++) {
+        begin_test(tests_once[i].name);
+        tests_once[i].run();
     }
 }
 
@@ -45,7 +64,9 @@ int main(void)
     /* What failed is seen even if a later call ends the program. */
     setvbuf(stdout, NULL, _IONBF, 0);
     make_sheet();
-    run_tests(TANDOS_PLAIN, "");
-    run_tests(TANDOS_MOVED, ", moved");
+    run_tests(TANDOS_TEN, TANDOS_PLAIN, "");
+    run_tests(TANDOS_TEN, TANDOS_MOVED, ", moved");
+    run_tests(TANDOS_NINE, TANDOS_PLAIN, ", nine");
+    run_tests_once();
     return report();
 }

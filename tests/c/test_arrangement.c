@@ -1,37 +1,10 @@
 /* The arrangement stated: numbers that are none, the moved form of a disc, and
  * a run of commands on both forms at once. */
-#include <stdio.h>
 #include <string.h>
 
 #include "calls.h"
 #include "report.h"
 #include "tests.h"
-
-/* In each call other refusals hold as well, on an image that is unsound. */
-static void refused_first(struct disc *disc)
-{
-    struct disc expected = *disc;
-
-    EXPECT_NUMBER(1, try_check(disc).number);
-    EXPECT_NUMBER(1, try_list(disc, 0).number);
-    EXPECT_NUMBER(1, try_read(disc, text("X."), 0).number);
-    EXPECT_NUMBER(1, try_save(disc, text("X."), 8, 0, 0, bytes(sheet, 0)));
-    EXPECT_NUMBER(1, try_delete(disc, text("X.")));
-    EXPECT_NUMBER(1, try_rename(disc, text("X."), text("A")));
-    EXPECT_NUMBER(1, try_protect(disc, text("X."), 1));
-    EXPECT_NUMBER(1, try_blank(disc, text("A.B")));
-    EXPECT_NUMBER(1, try_view_number(disc, 1, 11));
-    expect_disc("disc after refusals", &expected, disc);
-}
-
-/* Nothing else is wrong: a sound disc, and commands that would be done. */
-static void refused_alone(struct disc *disc)
-{
-    struct disc expected = *disc;
-
-    expect_refused_1(disc);
-    expect_disc("disc after refusals", &expected, disc);
-}
 
 /* Cut to fewer bits, some of these would be 0 or 1. */
 static void no_arrangement(void)
@@ -44,11 +17,11 @@ static void no_arrangement(void)
     size_t i;
 
     for (i = 0; i < sizeof numbers / sizeof numbers[0]; i++) {
-        stated = numbers[i];
+        stated.arrangement = numbers[i];
         make_small(&disc);
-        refused_alone(&disc);
+        expect_refused_1(&disc);
         make_unsound(&disc);
-        refused_first(&disc);
+        expect_refused_1_first(&disc);
     }
 }
 
@@ -75,8 +48,8 @@ static void moved_blank(void)
     for (i = 0; i < sizeof links / sizeof links[0]; i++)
         memcpy(expected + links[i].position, links[i].link, 2);
     memset(image, 0xEE, sizeof image);
-    EXPECT_NUMBER(0, tandos_blank(image, sizeof image, TANDOS_MOVED,
-                                  TANDOS_TEXT("PIECES")));
+    EXPECT_NUMBER(0, tandos_blank(image, sizeof image, TANDOS_TEN,
+                                  TANDOS_MOVED, TANDOS_TEXT("PIECES")));
     expect_bytes("moved blank disc", expected, image, sizeof image);
 }
 
@@ -84,38 +57,21 @@ static void moved_blank(void)
 static void misstated(void)
 {
     static uint8_t image[40 * 2560], before[40 * 2560];
-    uint32_t other = stated == TANDOS_PLAIN ? TANDOS_MOVED : TANDOS_PLAIN;
+    uint32_t other =
+        stated.arrangement == TANDOS_PLAIN ? TANDOS_MOVED : TANDOS_PLAIN;
     struct disc disc;
 
     make_pieces(&disc);
     arrange(before, disc.bytes, sizeof before, other);
     memcpy(image, before, sizeof image);
-    EXPECT_NUMBER(0, tandos_check(image, sizeof image, other).rule);
-    EXPECT_NUMBER(0, tandos_check(image, sizeof image, stated).number);
-    EXPECT_NUMBER(1, tandos_check(image, sizeof image, stated).rule != 0);
-    EXPECT_NUMBER(3, tandos_delete(image, sizeof image, stated,
+    EXPECT_NUMBER(0, tandos_check(image, sizeof image, TANDOS_TEN, other).rule);
+    EXPECT_NUMBER(0, tandos_check(image, sizeof image, STATED).number);
+    EXPECT_NUMBER(1, tandos_check(image, sizeof image, STATED).rule != 0);
+    EXPECT_NUMBER(3, tandos_delete(image, sizeof image, STATED,
                                    TANDOS_TEXT("THU.PCS")));
     expect_bytes("image after the refusal", before, image, sizeof image);
-    EXPECT_NUMBER(0, tandos_delete(image, sizeof image, other,
+    EXPECT_NUMBER(0, tandos_delete(image, sizeof image, TANDOS_TEN, other,
                                    TANDOS_TEXT("THU.PCS")));
-}
-
-/* The step-th command of a run, in the arrangement stated; its number. */
-static uint32_t run_step(struct disc *disc, unsigned step)
-{
-    char name[8], other[8];
-
-    sprintf(name, "F%u", step * 7 % 23);
-    sprintf(other, "F%u", step * 11 % 23);
-    switch (step % 9) {
-    case 0: case 1: case 2: case 3:
-        return save_at_2000(disc, name, bytes(sheet, 1 + step * 97 % 800));
-    case 4: return try_delete(disc, text(name));
-    case 5: return try_rename(disc, text(name), text(other));
-    case 6: return try_protect(disc, text(name), step % 18 < 9);
-    case 7: return try_read(disc, text(name), BUFFER_MAX).number;
-    default: return try_list(disc, 9752).number;
-    }
 }
 
 /* Number, image, and what a read or list left in its buffer. */
@@ -124,11 +80,11 @@ static void compare_step(struct disc *plain, struct disc *moved, unsigned step)
     static uint8_t plain_answer[BUFFER_MAX];
     uint32_t number;
 
-    stated = TANDOS_PLAIN;
-    number = run_step(plain, step);
+    stated.arrangement = TANDOS_PLAIN;
+    number = try_step(plain, step);
     memcpy(plain_answer, answer, sizeof answer);
-    stated = TANDOS_MOVED;
-    EXPECT_NUMBER(number, run_step(moved, step));
+    stated.arrangement = TANDOS_MOVED;
+    EXPECT_NUMBER(number, try_step(moved, step));
     expect_bytes("answer of the run", plain_answer, answer, sizeof answer);
     expect_disc("disc of the run", plain, moved);
     EXPECT_NUMBER(0, try_check(moved).rule);
@@ -147,8 +103,11 @@ static void run_on_both(void)
 
 void test_arrangement(void)
 {
-    misstated();
-    moved_blank();
-    run_on_both();
+    /* Only discs of ten sectors a track have a moved form. */
+    if (disc_sectors == TANDOS_TEN) {
+        misstated();
+        moved_blank();
+        run_on_both();
+    }
     no_arrangement();
 }

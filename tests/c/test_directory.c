@@ -11,7 +11,7 @@ static void fifteenth_file(void)
     make_fifteen(&disc);
     expected = disc;
     EXPECT_NUMBER(0, try_delete(&disc, text("F14")));
-    EXPECT_NUMBER(4, disc.bytes[0x14]);
+    EXPECT_NUMBER(of_kind(4, 11), disc.bytes[0x14]);
     EXPECT_NUMBER(14, disc.bytes[770]);
     EXPECT_NUMBER(0, save_at_2000(&disc, "F14", bytes(sheet, 1)));
     expect_disc("15 files", &expected, &disc);
@@ -19,14 +19,15 @@ static void fifteenth_file(void)
 
 static void sixteenth_file(void)
 {
+    struct place directory = free_place(16);
     struct disc disc, expected;
 
     make_sixteen(&expected);
     make_fifteen(&disc);
     /* Remains in the sector that the directory takes must go. */
-    *at(&disc, place(1, 5), 2) = 0xEE;
-    *at(&disc, place(1, 5), 100) = 0xEE;
-    *at(&disc, place(1, 5), 255) = 0xEE;
+    *at(&disc, directory, 2) = 0xEE;
+    *at(&disc, directory, 100) = 0xEE;
+    *at(&disc, directory, 255) = 0xEE;
     EXPECT_NUMBER(0, save_at_2000(&disc, "F15", bytes(sheet, 1)));
     expect_disc("16 files", &expected, &disc);
     EXPECT_NUMBER(0, try_check(&disc).rule);
@@ -43,45 +44,52 @@ static void save_after_delete(void)
     EXPECT_NUMBER(0, try_delete(&disc, text("F03")));
     EXPECT_NUMBER(0, save_at_2000(&disc, "NEW.FIL", bytes(sheet, 1)));
     *at(&expected, place(0, 4), 2) -= 1;
-    put_entry(&expected, place(0, 4), 3, "NEW   FIL", 1, place(0, 6),
-              place(0, 6));
+    put_entry(&expected, place(0, 4), 3, "NEW   FIL", 1, free_place(3),
+              free_place(3));
     expect_disc("save into the cleared slot", &expected, &disc);
 }
 
 /* On a full first sector the next entry goes to the second one's next slot,
- * and the last free sector is enough. */
+ * and the last free sectors, 1 or of nine 8 (245 + 7 * 253 bytes), are
+ * enough. */
 static void seventeenth_file(void)
 {
+    unsigned left = of_kind(1, 8);
+    size_t length = of_kind(1, 2016);
     struct disc disc, expected;
 
     make_sixteen(&disc);
     make_sixteen(&expected);
-    put_module(&expected, 17, module_at_2000(1));
-    put_entry(&expected, place(1, 5), 1, "F16      ", 1, place(1, 8),
-              place(1, 8));
+    put_module(&expected, 17, module_at_2000(length));
+    put_entry(&expected, free_place(16), 1, "F16      ", left, free_place(17),
+              free_place(16 + left));
     put_free_pointer(&expected, place(0, 0));
-    put_counts(&expected, 0, 17);
-    EXPECT_NUMBER(0, save_at_2000(&disc, "F16", bytes(sheet, 1)));
+    put_counts(&expected, 0, 16 + left);
+    EXPECT_NUMBER(0, save_at_2000(&disc, "F16", bytes(sheet, length)));
     expect_disc("17 files", &expected, &disc);
     EXPECT_NUMBER(8, save_at_2000(&disc, "F17", bytes(sheet, 1)));
 }
 
-/* Three sectors are free and the directory takes one of them. */
+/* Three sectors are free, or of nine ten, and the directory takes one of them:
+ * 2 hold 245 + 253 bytes, 9 hold 245 + 8 * 253. */
 static void room_with_the_directory(void)
 {
+    unsigned taken = of_kind(2, 9);
+    size_t length = of_kind(498, 2269);
+    struct place last = free_place(15 + taken);
     struct disc disc, expected;
 
     make_fifteen(&disc);
     expected = disc;
-    EXPECT_NUMBER(8, save_at_2000(&disc, "BIG", bytes(sheet, 499)));
-    put_module(&expected, 15, module_at_2000(498));
-    put_link(&expected, place(0, 4), place(1, 8));
-    put_link(&expected, place(1, 8), place(0, 0));
-    put_entry(&expected, place(1, 8), 0, "BIG      ", 2, place(1, 2),
-              place(1, 5));
+    EXPECT_NUMBER(8, save_at_2000(&disc, "BIG", bytes(sheet, length + 1)));
+    put_module(&expected, 15, module_at_2000(length));
+    put_link(&expected, place(0, 4), last);
+    put_link(&expected, last, place(0, 0));
+    put_entry(&expected, last, 0, "BIG      ", taken, free_place(15),
+              free_place(14 + taken));
     put_free_pointer(&expected, place(0, 0));
-    put_counts(&expected, 0, 17);
-    EXPECT_NUMBER(0, save_at_2000(&disc, "BIG", bytes(sheet, 498)));
+    put_counts(&expected, 0, 15 + taken);
+    EXPECT_NUMBER(0, save_at_2000(&disc, "BIG", bytes(sheet, length)));
     expect_disc("disc filled with its directory", &expected, &disc);
 }
 
@@ -94,9 +102,9 @@ static void emptied_sector(void)
     make_sixteen(&disc);
     make_sixteen(&expected);
     EXPECT_NUMBER(0, try_delete(&disc, text("F15")));
-    EXPECT_NUMBER(0, *at(&disc, place(1, 5), 2));
-    EXPECT_NUMBER(1, *at(&disc, place(0, 4), 0));
-    EXPECT_NUMBER(5, *at(&disc, place(0, 4), 1));
+    EXPECT_NUMBER(0, *at(&disc, free_place(16), 2));
+    EXPECT_NUMBER(of_kind(1, 2), *at(&disc, place(0, 4), 0));
+    EXPECT_NUMBER(of_kind(5, 1), *at(&disc, place(0, 4), 1));
     EXPECT_NUMBER(0, try_check(&disc).rule);
     EXPECT_NUMBER(0, save_at_2000(&disc, "F15", bytes(sheet, 1)));
     expect_disc("emptied sector filled again", &expected, &disc);

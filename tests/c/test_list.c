@@ -23,32 +23,39 @@ static void expect_list(const struct disc *disc, const uint8_t *records,
 
 static void worked_example(void)
 {
-    static const uint8_t records[] =
+    uint8_t records[] =
         "\x01\x50\x49\x45\x43\x45\x53\x20\x20\x20\x8C\x01\x02\0"
         "\x02\x54\x48\x55\x20\x20\x20\x50\x43\x53\x02\0\0";
     struct disc disc;
 
+    /* 396 = $018C sectors are free, of nine 356 = $0164. */
+    records[10] = (uint8_t)of_kind(0x8C, 0x64);
     make_pieces(&disc);
     expect_list(&disc, records, 28);
 }
 
+/* 798 = $031E, of nine 718 = $02CE. */
 static void blank_disc(void)
 {
+    const char *records = disc_sectors == 9
+                              ? "\x01""EMPTY    \xCE\x02\0\0"
+                              : "\x01""EMPTY    \x1E\x03\0\0";
     struct disc disc;
 
     make_blank(&disc, 80, "EMPTY    ");
-    expect_list(&disc, (const uint8_t *)"\x01""EMPTY    \x1E\x03\0\0", 15);
+    expect_list(&disc, (const uint8_t *)records, 15);
 }
 
 /* A protected file, and a disc name and version that no rule asks about. */
 static void as_it_stands(void)
 {
-    static const uint8_t records[] =
+    uint8_t records[] =
         "\x01\0\xFF""a.b  \x01z\x05\0\x03\0"
         "\x02""A        \x01\0\x80"
         "\x02""B        \x02\0\0";
     struct disc disc;
 
+    records[10] = (uint8_t)of_kind(5, 4);
     make_small(&disc);
     memcpy(disc.bytes + 0x18, records + 1, 9);
     memset(disc.bytes + 0x40, 0xEE, 32);
@@ -59,12 +66,13 @@ static void as_it_stands(void)
 /* B is saved into the second slot, C into the first: directory order. */
 static void directory_order(void)
 {
-    static const uint8_t records[] =
+    uint8_t records[] =
         "\x01SMALL    \x05\0\x03\0"
         "\x02""C        \x01\0\0"
         "\x02""B        \x02\0\0";
     struct disc disc;
 
+    records[10] = (uint8_t)of_kind(5, 4);
     make_small(&disc);
     EXPECT_NUMBER(0, try_delete(&disc, text("A")));
     EXPECT_NUMBER(0, save_at_2000(&disc, "C", bytes(sheet, 1)));
@@ -73,12 +81,12 @@ static void directory_order(void)
 
 static struct place place_of_number(unsigned number)
 {
-    return place(number / 10, number % 10 + 1);
+    return place(number / disc_sectors, number % disc_sectors + 1);
 }
 
-/* 80 tracks in plain order: 50 directory sectors, then 749 files of a sector
- * each, and nothing free. */
-static void make_fullest(struct disc *disc)
+/* 80 tracks in plain order: so many directory sectors, then so many files of a
+ * sector each, and nothing free. */
+static void make_fullest(struct disc *disc, unsigned directory, unsigned files)
 {
     char name[10];
     unsigned i;
@@ -86,30 +94,36 @@ static void make_fullest(struct disc *disc)
     make_blank(disc, 80, "FULLEST  ");
     memset(disc->bytes + 256, 0, disc->length - 256);
     put_free_pointer(disc, place(0, 0));
-    put_counts(disc, 0, 749);
+    put_counts(disc, 0, files);
     disc->bytes[0x12] = 2;
-    for (i = 1; i < 50; i++)
+    for (i = 1; i < directory; i++)
         put_link(disc, place_of_number(i), place_of_number(i + 1));
-    for (i = 0; i < 749; i++) {
+    for (i = 0; i < files; i++) {
+        struct place own = place_of_number(1 + directory + i);
+
         sprintf(name, "F%03u     ", i % 1000);
-        put_entry(disc, place_of_number(1 + i / 15), i % 15, name, 1,
-                  place_of_number(51 + i), place_of_number(51 + i));
+        put_entry(disc, place_of_number(1 + i / 15), i % 15, name, 1, own, own);
     }
 }
 
+/* 1 + 50 + 749 are 800 sectors, 1 + 45 + 674 are 720. 749 = $02ED, 674 =
+ * $02A2. */
 static void longest_list(void)
 {
     static uint8_t records[9752];
+    unsigned files = of_kind(749, 674);
+    size_t length = of_kind(9752, 8777);
     struct disc disc;
     unsigned i;
 
-    make_fullest(&disc);
+    make_fullest(&disc, of_kind(50, 45), files);
     EXPECT_NUMBER(9752, TANDOS_LIST_MAX);
     memcpy(records, "\x01""FULLEST  \0\0\xED\x02", 14);
-    for (i = 0; i < 749; i++)
+    records[12] = (uint8_t)of_kind(0xED, 0xA2);
+    for (i = 0; i < files; i++)
         sprintf((char *)records + 14 + 13 * i, "\x02""F%03u     \x01%c", i, 0);
-    records[9751] = 0;
-    expect_list(&disc, records, 9752);
+    records[length - 1] = 0;
+    expect_list(&disc, records, length);
 }
 
 void test_list(void)

@@ -7,7 +7,7 @@
 static void make_short(struct disc *disc)
 {
     make_unsound(disc);
-    disc->length = 2559;
+    disc->length = track_size() - 1;
 }
 
 /* Save: 1, 2, 7, 3, 5, 8. */
@@ -32,7 +32,7 @@ static void order_of_save(void)
     EXPECT_NUMBER(7, try_save(&disc, text("Y"), 8, 0, 0, one));
     EXPECT_NUMBER(5, try_save(&disc, text("X"), 0, 0, 0, one));
     EXPECT_NUMBER(8, try_save(&disc, text("Y"), 0, 0, 0, one));
-    put_counts(&disc, 0, 9);
+    put_counts(&disc, 0, of_kind(9, 8));
     EXPECT_NUMBER(3, try_save(&disc, text("X"), 0, 0, 0, one));
 }
 

@@ -42,7 +42,7 @@ static void second_directory_sector(void)
 
     make_sixteen(&disc);
     expected = disc;
-    memcpy(at(&expected, place(1, 5), 3), "LAST     ", 9);
+    memcpy(at(&expected, free_place(16), 3), "LAST     ", 9);
     EXPECT_NUMBER(0, try_rename(&disc, text("F15"), text("LAST")));
     expect_disc("renamed in the second sector", &expected, &disc);
 }

@@ -8,21 +8,21 @@
 /* Nothing lent at all: no call may look behind a NULL. */
 static void nothing_lent(void)
 {
-    tandos_reading reading = tandos_read(NULL, 0, stated, NULL, 0, NULL, 0);
+    tandos_reading reading = tandos_read(NULL, 0, STATED, NULL, 0, NULL, 0);
 
-    EXPECT_NUMBER(1, tandos_check(NULL, 0, stated).number);
-    EXPECT_NUMBER(0, tandos_check(NULL, 0, stated).rule);
-    EXPECT_NUMBER(1, tandos_list(NULL, 0, stated, NULL, 0).number);
+    EXPECT_NUMBER(1, tandos_check(NULL, 0, STATED).number);
+    EXPECT_NUMBER(0, tandos_check(NULL, 0, STATED).rule);
+    EXPECT_NUMBER(1, tandos_list(NULL, 0, STATED, NULL, 0).number);
     EXPECT_NUMBER(1, reading.number);
     EXPECT_NUMBER(0, reading.length);
-    EXPECT_NUMBER(1, tandos_save(NULL, 0, stated, NULL, 0, 0, 0, 0, NULL, 0));
-    EXPECT_NUMBER(1, tandos_delete(NULL, 0, stated, NULL, 0));
-    EXPECT_NUMBER(1, tandos_rename(NULL, 0, stated, NULL, 0, NULL, 0));
-    EXPECT_NUMBER(1, tandos_protect(NULL, 0, stated, NULL, 0, 0));
-    EXPECT_NUMBER(1, tandos_blank(NULL, 0, stated, NULL, 0));
-    EXPECT_NUMBER(1, tandos_view_number(NULL, 0, stated, 0, 1));
-    EXPECT_NUMBER(0, tandos_view_start(NULL, 0, stated, 0, 1));
-    EXPECT_NUMBER(1, tandos_view(NULL, 0, stated, 0, 1) == NULL);
+    EXPECT_NUMBER(1, tandos_save(NULL, 0, STATED, NULL, 0, 0, 0, 0, NULL, 0));
+    EXPECT_NUMBER(1, tandos_delete(NULL, 0, STATED, NULL, 0));
+    EXPECT_NUMBER(1, tandos_rename(NULL, 0, STATED, NULL, 0, NULL, 0));
+    EXPECT_NUMBER(1, tandos_protect(NULL, 0, STATED, NULL, 0, 0));
+    EXPECT_NUMBER(1, tandos_blank(NULL, 0, STATED, NULL, 0));
+    EXPECT_NUMBER(1, tandos_view_number(NULL, 0, STATED, 0, 1));
+    EXPECT_NUMBER(0, tandos_view_start(NULL, 0, STATED, 0, 1));
+    EXPECT_NUMBER(1, tandos_view(NULL, 0, STATED, 0, 1) == NULL);
 }
 
 /* An image lent, and beside it NULL with length 0. */
@@ -31,6 +31,7 @@ static void no_name_and_no_buffer(void)
     struct text nothing = bytes(NULL, 0);
     struct disc disc, expected;
     static uint8_t image[2560];
+    size_t length = track_size();
     uint8_t name[1] = { 'A' };
 
     make_small(&disc);
@@ -42,20 +43,26 @@ static void no_name_and_no_buffer(void)
     EXPECT_NUMBER(2, try_rename(&disc, nothing, text("C")));
     EXPECT_NUMBER(2, try_protect(&disc, nothing, 1));
     EXPECT_NUMBER(2, try_blank(&disc, nothing));
-    arrange(image, disc.bytes, 2560, stated);
-    EXPECT_NUMBER(10, tandos_list(image, 2560, stated, NULL, 0).number);
-    EXPECT_NUMBER(2, tandos_read(image, 2560, stated, NULL, 0, NULL, 0).number);
+    arrange(image, disc.bytes, length, stated.arrangement);
+    EXPECT_NUMBER(10, tandos_list(image, length, STATED, NULL, 0).number);
+    EXPECT_NUMBER(2,
+                  tandos_read(image, length, STATED, NULL, 0, NULL, 0).number);
     EXPECT_NUMBER(10,
-                  tandos_read(image, 2560, stated, name, 1, NULL, 0).number);
+                  tandos_read(image, length, STATED, name, 1, NULL, 0).number);
     expect_disc("disc after refusals", &expected, &disc);
 }
 
 static void macros(void)
 {
     EXPECT_NUMBER(256, TANDOS_SECTOR_SIZE);
-    EXPECT_NUMBER(2560, TANDOS_TRACK_SIZE);
-    EXPECT_NUMBER(2560, TANDOS_SECTOR_SIZE * TANDOS_SECTORS_PER_TRACK);
-    EXPECT_NUMBER(204800, TANDOS_IMAGE_SIZE(TANDOS_MAX_TRACKS));
+    EXPECT_NUMBER(9, TANDOS_NINE);
+    EXPECT_NUMBER(10, TANDOS_TEN);
+    EXPECT_NUMBER(2304, TANDOS_IMAGE_SIZE(1, TANDOS_NINE));
+    EXPECT_NUMBER(2560, TANDOS_IMAGE_SIZE(1, TANDOS_TEN));
+    EXPECT_NUMBER(92160, TANDOS_IMAGE_SIZE(40, TANDOS_NINE));
+    EXPECT_NUMBER(92160, TANDOS_IMAGE_SIZE(30 + 6, 5 + 5));
+    EXPECT_NUMBER(184320, TANDOS_IMAGE_SIZE(TANDOS_MAX_TRACKS, TANDOS_NINE));
+    EXPECT_NUMBER(204800, TANDOS_IMAGE_MAX);
     EXPECT_NUMBER(256, TANDOS_LINK_SIZE + TANDOS_VIEW_SIZE);
     EXPECT_NUMBER(28, TANDOS_LIST_SIZE(1));
     EXPECT_NUMBER(65536, TANDOS_SHEET_MAX);
@@ -63,9 +70,11 @@ static void macros(void)
 
 void test_sizes(void)
 {
-    static const size_t lengths[] = {
-        0, 1, 255, 256, 2559, 2561, 2816, 5119, 5121,
-        80 * 2560 - 1, 80 * 2560 + 1, 80 * 2560 + 256, 81 * 2560
+    size_t track = track_size();
+    size_t lengths[] = {
+        0, 1, 255, 256, track / 2, track - 1, track + 1, track + 256,
+        2 * track - 1, 2 * track + 1, 80 * track - 1, 80 * track + 1,
+        80 * track + 256, 81 * track
     };
     struct disc disc;
     size_t i;

@@ -15,30 +15,31 @@
 
 #define CUT_TO_ZERO ((size_t)1 << 32)
 
-/* Cut to 32 bits, each length below would be right: 2,560, 1 and 1. */
+/* Cut to 32 bits, each length below would be right: one track, 1 and 1. */
 static void too_long(uint8_t *wide, uint8_t *image)
 {
+    size_t track = track_size(), length = CUT_TO_ZERO + track;
     uint8_t expected[2560], name[1] = { 'C' };
 
-    memcpy(expected, image, 2560);
-    EXPECT_NUMBER(1, tandos_check(wide, CUT_TO_ZERO + 2560, stated).number);
-    EXPECT_NUMBER(1, tandos_view_number(wide, CUT_TO_ZERO + 2560, stated, 0,
-                                        1));
-    EXPECT_NUMBER(0, tandos_view_start(wide, CUT_TO_ZERO + 2560, stated, 0, 1));
-    EXPECT_NUMBER(2, tandos_delete(image, 2560, stated, wide,
+    memcpy(expected, image, track);
+    EXPECT_NUMBER(1, tandos_check(wide, length, STATED).number);
+    EXPECT_NUMBER(1, tandos_view_number(wide, length, STATED, 0, 1));
+    EXPECT_NUMBER(0, tandos_view_start(wide, length, STATED, 0, 1));
+    EXPECT_NUMBER(2, tandos_delete(image, track, STATED, wide,
                                    CUT_TO_ZERO + 1));
-    EXPECT_NUMBER(7, tandos_save(image, 2560, stated, name, 1, 0, 0, 0, wide,
+    EXPECT_NUMBER(7, tandos_save(image, track, STATED, name, 1, 0, 0, 0, wide,
                                  CUT_TO_ZERO + 1));
-    expect_bytes("image after refusals", expected, image, 2560);
+    expect_bytes("image after refusals", expected, image, track);
 }
 
 /* Cut to 32 bits, the buffer would be of length 0. */
 static void long_enough(uint8_t *wide, const uint8_t *image)
 {
     uint8_t name[1] = { 'A' };
-    tandos_listed listed = tandos_list(image, 2560, stated, wide, CUT_TO_ZERO);
-    tandos_reading reading = tandos_read(image, 2560, stated, name, 1, wide,
-                                         CUT_TO_ZERO);
+    tandos_listed listed =
+        tandos_list(image, track_size(), STATED, wide, CUT_TO_ZERO);
+    tandos_reading reading = tandos_read(image, track_size(), STATED, name, 1,
+                                         wide, CUT_TO_ZERO);
 
     EXPECT_NUMBER(0, listed.number);
     EXPECT_NUMBER(41, listed.length);
@@ -49,7 +50,7 @@ static void long_enough(uint8_t *wide, const uint8_t *image)
 
 void test_wide(void)
 {
-    uint8_t *wide = calloc(CUT_TO_ZERO + 2560, 1);
+    uint8_t *wide = calloc(CUT_TO_ZERO + track_size(), 1);
     uint8_t image[2560];
     struct disc disc;
 
@@ -58,7 +59,7 @@ void test_wide(void)
         return;
     }
     make_small(&disc);
-    arrange(image, disc.bytes, 2560, stated);
+    arrange(image, disc.bytes, disc.length, stated.arrangement);
     /* A dot here spares a search for one through all of the memory. */
     wide[0] = 'A';
     wide[1] = '.';

@@ -16,6 +16,8 @@ void test_view(void);
 void test_sizes(void);
 void test_order(void);
 void test_arrangement(void);
+void test_sectors(void);
+void test_nine(void);
 void test_text(void);
 void test_wide(void);
 

@@ -6,7 +6,7 @@ import shutil
 import subprocess
 
 from cases_usage import COMMANDS
-from disc import Disc, USED_COUNT, moved
+from disc import Disc, NINE, TEN, USED_COUNT, moved
 from support import (ROOT, REFUSALS, TANDOS, case, does, equal, holds, read, sheet_of,
                      tandos, write)
 
@@ -125,6 +125,28 @@ def _():
     equal(read("moved.img"), moved(expected.data))
     equal(read("plain.img"), before)
     holds(text, "1 of 2 discs done.\n")
+
+
+@case("examples/round.c: images of nine sectors a track")
+def _():
+    build_round()
+    expected = {}
+    for tracks, sectors in ((40, NINE), (36, TEN)):
+        disc = Disc.blank(tracks, "PIECES", sectors)
+        disc.save("OLD", sheet_of(300))
+        write(f"{sectors}.img", disc.data)
+        expected[sectors] = disc
+    write("sheet", b"new")
+    before = {sectors: disc.data[:] for sectors, disc in expected.items()}
+    arguments = ["NEW", "sheet", "OLD", "9.img", "10.img"]
+    equal(go_round("--sectors", "9", "--moved", *arguments)[0], 1)
+    equal((read("9.img"), read("10.img")), (before[NINE], before[TEN]))
+    expected[NINE].save("NEW", b"new")
+    expected[NINE].delete("OLD")
+    status, text = go_round("--sectors", "9", *arguments)
+    equal(status, 1)
+    holds(text, "1 of 2 discs done.\n")
+    equal((read("9.img"), read("10.img")), (expected[NINE].data, before[TEN]))
 
 
 @case("examples/round.c: a disc on which anything is refused stays as it was")

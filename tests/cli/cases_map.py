@@ -6,7 +6,7 @@ import re
 import xml.etree.ElementTree as ElementTree
 
 from cases_commands import on_terminal
-from disc import (Disc, FREE_COUNT, FREE_POINTER, SECTOR, USED_COUNT, place,
+from disc import (Disc, FREE_COUNT, FREE_POINTER, SECTOR, TEN, USED_COUNT,
                   typed_name)
 from support import (DONE, REFUSED, SANITIZED, TANDOS, case, does, equal,
                      fails, holds, is_misuse, is_refused, read, sheet_of,
@@ -16,10 +16,14 @@ SVG = "{http://www.w3.org/2000/svg}"
 DAMAGED_DISCS = 200
 
 
-def sound_disc(chance):
+def sound_disc(chance, sectors=TEN):
     """A sound disc with a history: files in pieces, some deleted before."""
     tracks = chance.choice((1, 2, 3, 5, 8, 35, 40, 80))
-    disc = Disc.blank(tracks, "MAP")
+    return with_history(Disc.blank(tracks, "MAP", sectors), chance)
+
+
+def with_history(disc, chance):
+    """Saves and deletes on a blank disc."""
     standing = []
     for i in range(chance.randrange(1, 12)):
         sheet = sheet_of(chance.randrange(1, 3000), i)
@@ -50,11 +54,12 @@ def expected_cells(disc):
             for number, met in enumerate(disc.meetings())]
 
 
-def found_cells(text):
-    """The rows after the one of the sector numbers, up to the legend."""
-    rows = [row.split() for row in text.split("\n\n")[1].splitlines()[1:]]
+def found_cells(text, sectors=TEN):
+    """The rows between that of the sector numbers and the legend."""
+    head, *rows = [row.split() for row in text.split("\n\n")[1].splitlines()]
+    equal(head, ["track"] + [str(i + 1) for i in range(sectors)])
     equal([row[0] for row in rows], [str(i) for i in range(len(rows))])
-    equal({len(row) for row in rows}, {11}, "cells in a row")
+    equal({len(row) for row in rows}, {sectors + 1}, "cells in a row")
     return [label for row in rows for label in row[1:]]
 
 
@@ -102,11 +107,11 @@ def expected_damage(disc):
     for number, met in enumerate(positions(disc)):
         if len(met) > 1:
             more = f", and {len(met) - 2} more" if len(met) > 2 else ""
-            lines.append(f"  {place(number)}: {told(*met[0])}, "
+            lines.append(f"  {disc.place(number)}: {told(*met[0])}, "
                          f"{told(*met[1])}{more}")
     for label, walk in disc.chains():
         if walk.stop == "off":
-            start = place(walk.off_from) if walk.sectors else "beginning"
+            start = disc.place(walk.off_from) if walk.sectors else "beginning"
             track, sector = walk.off_to
             lines.append(f"  {start} of {names[label]}: to {track}/{sector}")
     return lines
@@ -122,7 +127,8 @@ def check_text_map(disc, answer):
     head = answer.text.splitlines()[0]
     holds(head, "The disc is sound." if rule == 0 else
           f"Rule {rule} is broken: ")
-    equal(found_cells(answer.text), expected_cells(disc), "cells")
+    equal(found_cells(answer.text, disc.sectors), expected_cells(disc),
+          "cells")
     equal(" \n" in answer.text, False, "space at the end of a line")
     check_legend(disc, answer.text)
     if rule != 0:
@@ -131,9 +137,28 @@ def check_text_map(disc, answer):
               sorted(expected_damage(disc)))
         lost = lines_under(answer.text, "Lost, met by no chain")
         equal(" ".join(lost).split(),
-              [place(n) for n, met in enumerate(disc.meetings()) if not met])
+              [disc.place(number)
+               for number, met in enumerate(disc.meetings()) if not met])
     equal(answer.error, "", "standard error")
     equal(answer.status, DONE if rule == 0 else REFUSED, "status")
+
+
+def corner(group):
+    """Where the rectangle of a sector or of the legend begins."""
+    rectangle = group.find(f"{SVG}rect")
+    return int(rectangle.get("x")), int(rectangle.get("y"))
+
+
+def check_grid(disc, root, cells):
+    """A row for each track, a column for each sector, numbered."""
+    rulers, = [[text.text for text in group.findall(f"{SVG}text")]
+               for group in root.iter(f"{SVG}g") if group.get("text-anchor")]
+    equal(rulers, [str(i + 1) for i in range(disc.sectors)]
+          + [str(i) for i in range(disc.tracks)])
+    columns = sorted({x for x, _ in map(corner, cells)})
+    rows = sorted({y for _, y in map(corner, cells)})
+    for number, (x, y) in enumerate(map(corner, cells)):
+        equal((rows.index(y), columns.index(x) + 1), disc.pair_of(number))
 
 
 def check_svg(disc, data):
@@ -142,14 +167,16 @@ def check_svg(disc, data):
     cells = [group for group in root.iter(f"{SVG}g")
              if group.get("class") == "sector"]
     equal(len(cells), disc.count, "sectors")
+    check_grid(disc, root, cells)
     for number, (group, met) in enumerate(zip(cells, positions(disc))):
         title = group.find(f"{SVG}title").text
         texts = [text.text for text in group.findall(f"{SVG}text")]
         if not met:
-            equal((title, texts), (f"{place(number)}: lost", ["?"]))
+            equal((title, texts), (f"{disc.place(number)}: lost", ["?"]))
             continue
         label, position = met[0]
-        holds(title, f"{place(number)}: {names[label]}, sector {position}")
+        holds(title,
+              f"{disc.place(number)}: {names[label]}, sector {position}")
         shown = "." if label == "free" else label
         equal(texts[0].rstrip("+>"), shown)
         equal(texts[1], str(position))
@@ -183,12 +210,12 @@ def _():
         check_svg(disc, does("map", "a.img", "--svg", "-").out)
 
 
-def damaged_disc(chance):
+def damaged_disc(chance, sectors=TEN):
     """A sound disc with one to four bytes changed, mostly among those that
     the chains stand in. Chance alone hardly ever breaks rules 4 and 8 and none
     before them."""
     while True:
-        disc = sound_disc(chance)
+        disc = sound_disc(chance, sectors)
         kind = chance.randrange(20)
         if kind == 0:
             lose_sectors(disc)
@@ -230,7 +257,8 @@ def damaged_place(disc, chance):
 def damaged_byte(disc, chance):
     """Often on the boundary: the first and last sector and track, and those
     after them."""
-    return chance.choice((0, 1, chance.randrange(1, 11), 10, 11,
+    return chance.choice((0, 1, chance.randrange(1, disc.sectors + 1),
+                          disc.sectors, disc.sectors + 1,
                           chance.randrange(disc.tracks), disc.tracks - 1,
                           disc.tracks, 0xFF, chance.randrange(256)))
 

@@ -4,16 +4,16 @@ from disc import Disc
 from support import case, does, equal, fails, holds, is_misuse, unchanged, write
 
 COMMANDS = {
-    "blank": "IMAGE TRACKS NAME [--force] [--moved]",
-    "list": "IMAGE [--table | --json] [--moved]",
-    "read": "IMAGE NAME [-o FILE | --info] [--moved]",
+    "blank": "IMAGE TRACKS NAME [--force] [--moved | --sectors 9]",
+    "list": "IMAGE [--table | --json] [--moved | --sectors 9]",
+    "read": "IMAGE NAME [-o FILE | --info] [--moved | --sectors 9]",
     "save": "IMAGE NAME FILE [OPTION..]",
-    "delete": "IMAGE NAME [--moved]",
-    "rename": "IMAGE OLD NEW [--moved]",
-    "protect": "IMAGE NAME on|off [--moved]",
-    "check": "IMAGE.. [--moved]",
-    "view": "IMAGE TRACK/SECTOR [--moved]",
-    "map": "IMAGE [--color=WHEN] [--svg FILE] [--moved]",
+    "delete": "IMAGE NAME [--moved | --sectors 9]",
+    "rename": "IMAGE OLD NEW [--moved | --sectors 9]",
+    "protect": "IMAGE NAME on|off [--moved | --sectors 9]",
+    "check": "IMAGE.. [--moved | --sectors 9]",
+    "view": "IMAGE TRACK/SECTOR [--moved | --sectors 9]",
+    "map": "IMAGE [--color=WHEN] [--svg FILE] [--moved | --sectors 9]",
     "rearrange": "IMAGE --to moved|plain -o FILE",
 }
 
@@ -32,7 +32,8 @@ def _():
     for command, synopsis in COMMANDS.items():
         text = does(command, "--help").text
         holds(text, f"Usage: tandos {command} {synopsis}\n")
-        equal("--moved" in text, command != "rearrange", command)
+        for option in ("  --moved ", "  --sectors 9 "):
+            equal(option in text, command != "rearrange", command)
         equal(does(command, "a", "b", "c", "d", "-h").text, text)
 
 

@@ -4,8 +4,10 @@ Nothing here calls the library or the command: these are the discs, the broken
 rules and the maps that the tests expect of them.
 """
 
-PASSING_ORDER = (1, 4, 7, 10, 3, 6, 9, 2, 5, 8)
-TRACK = 2560
+NINE, TEN = 9, 10
+# By the number of sectors of a track, the order in which they pass.
+PASSING_ORDER = {NINE: (1, 4, 7, 2, 5, 8, 3, 6, 9),
+                 TEN: (1, 4, 7, 10, 3, 6, 9, 2, 5, 8)}
 SECTOR = 256
 LETTERS = b"ABCDEFGHIJKLMNOPQRSTUVWXYZ0123456789"
 
@@ -16,21 +18,12 @@ USED_COUNT = 0x16
 
 
 def moved(data):
-    """The moved image of a plain one: the sectors of each track stand in the
-    order in which they pass."""
+    """The moved image of a plain one of ten sectors a track: the sectors of
+    each track stand in the order in which they pass."""
     return b"".join(bytes(data[at:at + SECTOR])
-                    for track in range(0, len(data), TRACK)
+                    for track in range(0, len(data), TEN * SECTOR)
                     for at in (track + SECTOR * (sector - 1)
-                               for sector in PASSING_ORDER))
-
-
-def place(number):
-    return f"{number // 10}/{number % 10 + 1}"
-
-
-def number_of(text):
-    track, sector = text.split("/")
-    return 10 * int(track) + int(sector) - 1
+                               for sector in PASSING_ORDER[TEN]))
 
 
 def stored_name(typed):
@@ -77,7 +70,7 @@ class Walk:
                 self.stop = "off"
                 self.off_to = pair
                 return
-            number = 10 * track + sector - 1
+            number = disc.sectors * track + sector - 1
             if number == 0 or number in met:
                 self.stop = "system" if number == 0 else "again"
                 self.stopped_at = number
@@ -89,18 +82,19 @@ class Walk:
 
 
 class Disc:
-    """A disc by its plain image."""
+    """A disc by its plain image and the number of sectors of a track."""
 
-    def __init__(self, data):
+    def __init__(self, data, sectors=TEN):
         self.data = bytearray(data)
-        self.tracks = len(data) // TRACK
-        self.count = 10 * self.tracks
+        self.sectors = sectors
+        self.tracks = len(data) // (sectors * SECTOR)
+        self.count = sectors * self.tracks
 
     @classmethod
-    def blank(cls, tracks, name):
-        disc = cls(bytes(tracks * TRACK))
-        order = [10 * track + sector - 1
-                 for track in range(tracks) for sector in PASSING_ORDER][2:]
+    def blank(cls, tracks, name, sectors=TEN):
+        disc = cls(bytes(tracks * sectors * SECTOR), sectors)
+        order = [sectors * track + sector - 1 for track in range(tracks)
+                 for sector in PASSING_ORDER[sectors]][2:]
         for number, following in zip(order, order[1:]):
             disc.set_link(number, following)
         disc.set_pair(FREE_POINTER, order[0])
@@ -111,7 +105,14 @@ class Disc:
         return disc
 
     def is_on(self, pair):
-        return pair[0] < self.tracks and 1 <= pair[1] <= 10
+        return pair[0] < self.tracks and 1 <= pair[1] <= self.sectors
+
+    def pair_of(self, number):
+        """The (track, sector) of a sector by its number."""
+        return (number // self.sectors, number % self.sectors + 1)
+
+    def place(self, number):
+        return "%d/%d" % self.pair_of(number)
 
     def word(self, at):
         return self.data[at] + 256 * self.data[at + 1]
@@ -124,7 +125,7 @@ class Disc:
         return (self.data[at + 1], self.data[at])
 
     def set_pair(self, at, number):
-        self.data[at:at + 2] = bytes([number % 10 + 1, number // 10])
+        self.data[at:at + 2] = bytes(reversed(self.pair_of(number)))
 
     def link(self, number):
         at = SECTOR * number
@@ -133,7 +134,7 @@ class Disc:
     def set_link(self, number, following):
         at = SECTOR * number
         self.data[at:at + 2] = (b"\0\0" if following is None else
-                                bytes([following // 10, following % 10 + 1]))
+                                bytes(self.pair_of(following)))
 
     def directory(self):
         return Walk(self, self.pair(DIRECTORY_POINTER))
@@ -213,7 +214,7 @@ class Disc:
         met = set(self.directory().sectors)
         for entry in self.entries():
             walk = Walk(self, entry.first)
-            if not is_file_chain(walk, entry, met):
+            if not self.is_file_chain(walk, entry, met):
                 return 5
             met |= set(walk.sectors)
         free = self.free()
@@ -224,6 +225,11 @@ class Disc:
             return 7
         met |= set(free.sectors)
         return 8 if len(met) < self.count - 1 else 0
+
+    def is_file_chain(self, walk, entry, met):
+        return (walk.stop == "end" and len(walk.sectors) == entry.length
+                and self.pair_of(walk.sectors[-1]) == entry.last
+                and not met & set(walk.sectors))
 
     def entries_are_right(self):
         for number in self.directory().sectors:
@@ -254,12 +260,6 @@ class Disc:
             if walk.stop in ("system", "again"):
                 met[walk.stopped_at].append(label)
         return met
-
-
-def is_file_chain(walk, entry, met):
-    return (walk.stop == "end" and len(walk.sectors) == entry.length
-            and place(walk.sectors[-1]) == "%d/%d" % entry.last
-            and not met & set(walk.sectors))
 
 
 def module_bodies(sheet, page, start, transfer):

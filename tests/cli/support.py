@@ -15,7 +15,7 @@ DONE, REFUSED, FAILED = 0, 1, 2
 
 # The beginnings of the sentences that go with the refusals.
 REFUSALS = {
-    1: ("SIZE", "The image is not 2,560 bytes long"),
+    1: ("SIZE", "The image is not as long as 1 to 80 tracks"),
     2: ("NAME", "The name breaks its rule"),
     3: ("UNSOUND", "The disc is damaged"),
     4: ("ABSENT", "No file on the disc has this name"),

@@ -30,6 +30,17 @@ static struct lent lend_text(struct text text)
     return lend(text.bytes, text.length);
 }
 
+static tandos_image disc_on(const struct lent *lent, struct stated stated)
+{
+    tandos_image image;
+
+    image.bytes = lent->bytes;
+    image.length = lent->length;
+    image.sectors = stated.sectors;
+    image.arrangement = stated.arrangement;
+    return image;
+}
+
 static void take_buffer(struct lent *buffer, size_t written, const char *what)
 {
     require_kept(buffer, unwritten(), written, what);
@@ -50,43 +61,45 @@ static void take_image(struct image *image, struct lent *lent, uint32_t number,
     give_back(lent);
 }
 
-tandos_checked call_check(const struct lent *image, uint32_t arrangement)
+tandos_checked call_check(const struct lent *image, struct stated stated)
 {
-    tandos_checked checked = tandos_check(image->bytes, image->length,
-                                          arrangement);
+    tandos_image disc = disc_on(image, stated);
+    tandos_checked checked = tandos_check(TANDOS_ON(disc));
 
-    count_answer(CALL_CHECK, arrangement, checked.number);
+    count_answer(CALL_CHECK, stated, checked.number);
     if (checked.number == TANDOS_DONE)
-        count_rule(arrangement, checked.rule);
+        count_rule(stated, checked.rule);
     else
         REQUIRE_EQUAL(0, checked.rule, "rule of a refused check");
     return checked;
 }
 
-tandos_listed call_list(const struct lent *image, uint32_t arrangement,
+tandos_listed call_list(const struct lent *image, struct stated stated,
                         size_t buffer_length)
 {
+    tandos_image disc = disc_on(image, stated);
     struct lent buffer = lend_buffer(buffer_length);
-    tandos_listed listed = tandos_list(image->bytes, image->length, arrangement,
-                                       buffer.bytes, buffer.length);
+    tandos_listed listed = tandos_list(TANDOS_ON(disc), buffer.bytes,
+                                       buffer.length);
 
-    count_answer(CALL_LIST, arrangement, listed.number);
+    count_answer(CALL_LIST, stated, listed.number);
     if (listed.number != TANDOS_DONE)
         REQUIRE_EQUAL(0, listed.length, "length of a refused list");
     take_buffer(&buffer, listed.length, "list writes beside its records");
     return listed;
 }
 
-tandos_reading call_read(const struct lent *image, uint32_t arrangement,
+tandos_reading call_read(const struct lent *image, struct stated stated,
                          struct text name, size_t buffer_length)
 {
+    tandos_image disc = disc_on(image, stated);
     struct lent typed = lend_text(name);
     struct lent buffer = lend_buffer(buffer_length);
     tandos_reading reading =
-        tandos_read(image->bytes, image->length, arrangement, typed.bytes,
-                    typed.length, buffer.bytes, buffer.length);
+        tandos_read(TANDOS_ON(disc), typed.bytes, typed.length, buffer.bytes,
+                    buffer.length);
 
-    count_answer(CALL_READ, arrangement, reading.number);
+    count_answer(CALL_READ, stated, reading.number);
     if (reading.number != TANDOS_DONE)
         REQUIRE((reading.page | reading.start | reading.end |
                  reading.transfer | reading.length) == 0,
@@ -96,24 +109,22 @@ tandos_reading call_read(const struct lent *image, uint32_t arrangement,
     return reading;
 }
 
-struct viewed call_view(const struct lent *image, uint32_t arrangement,
+struct viewed call_view(const struct lent *image, struct stated stated,
                         uint32_t track, uint32_t sector)
 {
+    tandos_image disc = disc_on(image, stated);
     struct viewed viewed;
-    uint32_t start = tandos_view_start(image->bytes, image->length,
-                                       arrangement, track, sector);
+    uint32_t start = tandos_view_start(TANDOS_ON(disc), track, sector);
 
-    viewed.number = tandos_view_number(image->bytes, image->length,
-                                       arrangement, track, sector);
-    viewed.bytes = tandos_view(image->bytes, image->length, arrangement, track,
-                               sector);
-    count_answer(CALL_VIEW, arrangement, viewed.number);
+    viewed.number = tandos_view_number(TANDOS_ON(disc), track, sector);
+    viewed.bytes = tandos_view(TANDOS_ON(disc), track, sector);
+    count_answer(CALL_VIEW, stated, viewed.number);
     if (viewed.number != TANDOS_DONE) {
         REQUIRE(viewed.bytes == NULL, "a refused view isn't empty");
         REQUIRE_EQUAL(0, start, "start of a refused view");
     } else {
-        REQUIRE_EQUAL(sector_start(arrangement, track, sector) +
-                      TANDOS_LINK_SIZE, start, "start of a view");
+        REQUIRE_EQUAL(sector_start(stated, track, sector) + TANDOS_LINK_SIZE,
+                      start, "start of a view");
         REQUIRE(viewed.bytes == image->bytes + start,
                 "the view isn't where the sector's bytes lie");
     }
@@ -124,14 +135,15 @@ uint32_t call_save(struct image *image, struct text name,
                    const struct module *module)
 {
     struct lent lent = lend(image->bytes, image->length);
+    tandos_image disc = disc_on(&lent, image->stated);
     struct lent typed = lend_text(name);
     struct lent sheet = lend_text(module->sheet);
     uint32_t number =
-        tandos_save(lent.bytes, lent.length, image->arrangement, typed.bytes,
-                    typed.length, module->page, module->start,
-                    module->transfer, sheet.bytes, sheet.length);
+        tandos_save(TANDOS_ON(disc), typed.bytes, typed.length, module->page,
+                    module->start, module->transfer, sheet.bytes,
+                    sheet.length);
 
-    count_answer(CALL_SAVE, image->arrangement, number);
+    count_answer(CALL_SAVE, image->stated, number);
     take_image(image, &lent, number, "image after a refused save");
     give_back_kept(&typed, name.bytes, "save changes the name");
     give_back_kept(&sheet, module->sheet.bytes, "save changes the sheet");
@@ -141,12 +153,11 @@ uint32_t call_save(struct image *image, struct text name,
 uint32_t call_delete(struct image *image, struct text name)
 {
     struct lent lent = lend(image->bytes, image->length);
+    tandos_image disc = disc_on(&lent, image->stated);
     struct lent typed = lend_text(name);
-    uint32_t number = tandos_delete(lent.bytes, lent.length,
-                                    image->arrangement, typed.bytes,
-                                    typed.length);
+    uint32_t number = tandos_delete(TANDOS_ON(disc), typed.bytes, typed.length);
 
-    count_answer(CALL_DELETE, image->arrangement, number);
+    count_answer(CALL_DELETE, image->stated, number);
     take_image(image, &lent, number, "image after a refused delete");
     give_back_kept(&typed, name.bytes, "delete changes the name");
     return number;
@@ -156,14 +167,14 @@ uint32_t call_rename(struct image *image, struct text old_name,
                      struct text new_name)
 {
     struct lent lent = lend(image->bytes, image->length);
+    tandos_image disc = disc_on(&lent, image->stated);
     struct lent old_typed = lend_text(old_name);
     struct lent new_typed = lend_text(new_name);
     uint32_t number =
-        tandos_rename(lent.bytes, lent.length, image->arrangement,
-                      old_typed.bytes, old_typed.length, new_typed.bytes,
-                      new_typed.length);
+        tandos_rename(TANDOS_ON(disc), old_typed.bytes, old_typed.length,
+                      new_typed.bytes, new_typed.length);
 
-    count_answer(CALL_RENAME, image->arrangement, number);
+    count_answer(CALL_RENAME, image->stated, number);
     take_image(image, &lent, number, "image after a refused rename");
     give_back_kept(&old_typed, old_name.bytes, "rename changes the old name");
     give_back_kept(&new_typed, new_name.bytes, "rename changes the new name");
@@ -173,12 +184,12 @@ uint32_t call_rename(struct image *image, struct text old_name,
 uint32_t call_protect(struct image *image, struct text name, uint32_t on)
 {
     struct lent lent = lend(image->bytes, image->length);
+    tandos_image disc = disc_on(&lent, image->stated);
     struct lent typed = lend_text(name);
-    uint32_t number = tandos_protect(lent.bytes, lent.length,
-                                     image->arrangement, typed.bytes,
+    uint32_t number = tandos_protect(TANDOS_ON(disc), typed.bytes,
                                      typed.length, on);
 
-    count_answer(CALL_PROTECT, image->arrangement, number);
+    count_answer(CALL_PROTECT, image->stated, number);
     take_image(image, &lent, number, "image after a refused protect");
     give_back_kept(&typed, name.bytes, "protect changes the name");
     return number;
@@ -187,12 +198,11 @@ uint32_t call_protect(struct image *image, struct text name, uint32_t on)
 uint32_t call_blank(struct image *image, struct text name)
 {
     struct lent lent = lend(image->bytes, image->length);
+    tandos_image disc = disc_on(&lent, image->stated);
     struct lent typed = lend_text(name);
-    uint32_t number = tandos_blank(lent.bytes, lent.length,
-                                   image->arrangement, typed.bytes,
-                                   typed.length);
+    uint32_t number = tandos_blank(TANDOS_ON(disc), typed.bytes, typed.length);
 
-    count_answer(CALL_BLANK, image->arrangement, number);
+    count_answer(CALL_BLANK, image->stated, number);
     take_image(image, &lent, number, "image after a refused blank");
     give_back_kept(&typed, name.bytes, "blank changes the name");
     return number;

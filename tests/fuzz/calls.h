@@ -20,12 +20,12 @@ struct viewed {
 };
 
 /* The image is lent for reading: whoever lent it expects it kept. */
-tandos_checked call_check(const struct lent *image, uint32_t arrangement);
-tandos_listed call_list(const struct lent *image, uint32_t arrangement,
+tandos_checked call_check(const struct lent *image, struct stated stated);
+tandos_listed call_list(const struct lent *image, struct stated stated,
                         size_t buffer_length);
-tandos_reading call_read(const struct lent *image, uint32_t arrangement,
+tandos_reading call_read(const struct lent *image, struct stated stated,
                          struct text name, size_t buffer_length);
-struct viewed call_view(const struct lent *image, uint32_t arrangement,
+struct viewed call_view(const struct lent *image, struct stated stated,
                         uint32_t track, uint32_t sector);
 
 struct module {

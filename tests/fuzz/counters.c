@@ -4,7 +4,6 @@
 #include <stdlib.h>
 
 #include "finding.h"
-#include "image.h"
 
 #define NUMBERS 12
 #define RULES 9
@@ -33,25 +32,39 @@ static const struct row rows[CALLS] = {
     [CALL_VIEW] = { "view", BIT(0) | BIT(1) | BIT(11) }
 };
 
-/* The calls by what is stated; those on twins by themselves. */
-enum table { TABLE_PLAIN, TABLE_MOVED, TABLE_WRONG, TABLE_TWIN, TABLES };
+/* The calls by what is stated, a table for each kind; those on twins by
+ * themselves. */
+#define TABLE_TWIN KINDS
+#define TABLES (KINDS + 1)
 
 static const char *const table_names[TABLES] = {
-    [TABLE_PLAIN] = "plain", [TABLE_MOVED] = "moved", [TABLE_WRONG] = "wrong",
-    [TABLE_TWIN] = "twin"
+    [KIND_NINE] = "nine", [KIND_PLAIN] = "plain", [KIND_MOVED] = "moved",
+    [KIND_WRONG_SECTORS] = "wrong-sectors",
+    [KIND_WRONG_ARRANGEMENT] = "wrong-arranged",
+    [KIND_NINE_MOVED] = "nine-moved", [TABLE_TWIN] = "twin"
 };
 
-#define ANSWERS (TABLES * CALLS * NUMBERS)
+static const char *const occasion_names[OCCASIONS] = {
+    [GROWN_DIRECTORY] = "grown", [FULL_DISC] = "full",
+    [MOST_TRACKS] = "80-tracks", [EITHER_NUMBER] = "either",
+    [RESTATED] = "restated", [OTHERS_LENGTH] = "others",
+    [SECTOR_ABOVE] = "above"
+};
+
+/* Where the features of each sort begin. */
+#define RULE_FEATURES (TABLES * CALLS * NUMBERS)
+#define OCCASION_FEATURES (RULE_FEATURES + TABLES * RULES)
+#define SIZE_FEATURES (OCCASION_FEATURES + DISC_KINDS * OCCASIONS)
 
 /* libFuzzer clears this section before each input and reads it after. */
 __attribute__((section("__libfuzzer_extra_counters")))
-static uint8_t features[ANSWERS + TABLES * RULES + 3 * SIZES];
+static uint8_t features[SIZE_FEATURES + 3 * SIZES];
 
 static unsigned long answers[TABLES][CALLS][NUMBERS];
 static unsigned long rules[TABLES][RULES];
+static unsigned long occasions[DISC_KINDS][OCCASIONS];
 static int is_on_twin;
 static size_t most_files, most_directory;
-static unsigned long full_discs;
 
 static void mark(size_t feature)
 {
@@ -71,40 +84,41 @@ static size_t size_class(size_t size)
     return class;
 }
 
-static enum table table_of(uint32_t arrangement)
+static unsigned table_of(struct stated stated)
 {
-    if (is_on_twin)
-        return TABLE_TWIN;
-    if (!is_arrangement(arrangement))
-        return TABLE_WRONG;
-    return arrangement == TANDOS_PLAIN ? TABLE_PLAIN : TABLE_MOVED;
+    return is_on_twin ? TABLE_TWIN : kind_of(stated);
+}
+
+static int is_disc_table(unsigned table)
+{
+    return table < DISC_KINDS || table == TABLE_TWIN;
 }
 
 /* What may be answered, and has to occur. */
-static unsigned numbers_of(enum table table, enum call call)
+static unsigned numbers_of(unsigned table, enum call call)
 {
-    return table == TABLE_WRONG ? BIT(TANDOS_SIZE) : rows[call].numbers;
+    return is_disc_table(table) ? rows[call].numbers : BIT(TANDOS_SIZE);
 }
 
-void count_answer(enum call call, uint32_t arrangement, uint32_t number)
+void count_answer(enum call call, struct stated stated, uint32_t number)
 {
-    enum table table = table_of(arrangement);
+    unsigned table = table_of(stated);
 
     REQUIRE(number < NUMBERS, "a number that is no refusal");
     REQUIRE(numbers_of(table, call) & BIT(number),
-            table == TABLE_WRONG ? "a wrong arrangement isn't refused"
-                                 : "a number of another call");
+            is_disc_table(table) ? "a number of another call"
+                                 : "a wrong number stated isn't refused");
     answers[table][call][number]++;
     mark((table * CALLS + call) * NUMBERS + number);
 }
 
-void count_rule(uint32_t arrangement, uint32_t rule)
+void count_rule(struct stated stated, uint32_t rule)
 {
-    enum table table = table_of(arrangement);
+    unsigned table = table_of(stated);
 
     REQUIRE(rule < RULES, "a rule that does not exist");
     rules[table][rule]++;
-    mark(ANSWERS + table * RULES + rule);
+    mark(RULE_FEATURES + table * RULES + rule);
 }
 
 void count_as_twin(int is_twin)
@@ -112,28 +126,32 @@ void count_as_twin(int is_twin)
     is_on_twin = is_twin;
 }
 
+void count_occasion(struct stated stated, enum occasion occasion)
+{
+    enum kind kind = kind_of(stated);
+
+    occasions[kind][occasion]++;
+    mark(OCCASION_FEATURES + kind * OCCASIONS + occasion);
+}
+
 void count_disc(size_t files, size_t directory, size_t free_sectors)
 {
-    size_t first = ANSWERS + TABLES * RULES;
-
-    mark(first + size_class(files));
-    mark(first + SIZES + size_class(directory));
-    mark(first + 2 * SIZES + size_class(free_sectors));
+    mark(SIZE_FEATURES + size_class(files));
+    mark(SIZE_FEATURES + SIZES + size_class(directory));
+    mark(SIZE_FEATURES + 2 * SIZES + size_class(free_sectors));
     if (files > most_files)
         most_files = files;
     if (directory > most_directory)
         most_directory = directory;
-    if (free_sectors == 0)
-        full_discs++;
 }
 
 /* One row of counts, those that can't occur as '-'. */
-static void print_row(const char *name, enum table table,
+static void print_row(const char *name, unsigned table,
                       const unsigned long *counts, unsigned numbers)
 {
     unsigned number;
 
-    printf("%-8s%-6s", name, table_names[table]);
+    printf("%-8s%-14s", name, table_names[table]);
     for (number = 0; number < NUMBERS; number++) {
         if (numbers & BIT(number))
             printf("%11lu", counts[number]);
@@ -143,7 +161,7 @@ static void print_row(const char *name, enum table table,
     putchar('\n');
 }
 
-static void print_table(enum table table)
+static void print_table(unsigned table)
 {
     unsigned i;
 
@@ -151,23 +169,38 @@ static void print_table(enum table table)
         print_row(rows[i].name, table, answers[table][i],
                   numbers_of(table, (enum call)i));
     /* 0 is a sound image. */
-    if (table != TABLE_WRONG)
+    if (is_disc_table(table))
         print_row("rule", table, rules[table], BIT(RULES) - 1);
+}
+
+static void print_occasions(void)
+{
+    unsigned kind, i;
+
+    printf("%-22s", "occasion");
+    for (i = 0; i < OCCASIONS; i++)
+        printf("%11s", occasion_names[i]);
+    for (kind = 0; kind < DISC_KINDS; kind++) {
+        printf("\n%-8s%-14s", "disc", table_names[kind]);
+        for (i = 0; i < OCCASIONS; i++)
+            printf("%11lu", occasions[kind][i]);
+    }
+    putchar('\n');
 }
 
 static void report(void)
 {
     unsigned i;
 
-    printf("%-14s", "answer");
+    printf("%-22s", "answer");
     for (i = 0; i < NUMBERS; i++)
         printf("%11u", i);
     putchar('\n');
     for (i = 0; i < TABLES; i++)
-        print_table((enum table)i);
-    printf("sound discs: at most %zu files, at most %zu directory sectors; "
-           "without a free sector %lu\n", most_files, most_directory,
-           full_discs);
+        print_table(i);
+    print_occasions();
+    printf("sound discs: at most %zu files, at most %zu directory sectors\n",
+           most_files, most_directory);
 }
 
 void report_at_exit(void)

@@ -1,31 +1,46 @@
 /*
  * What the inputs reached: each call's answers, the rules that the check
- * reports, and how full the discs were. libFuzzer sees no code of the archive,
- * so these counts are also handed to it: an input that reaches something new
- * is kept.
+ * reports, how full the discs were, and some occasions. libFuzzer sees no code
+ * of the archive, so these counts are also handed to it: an input that reaches
+ * something new is kept.
  */
 #ifndef COUNTERS_H
 #define COUNTERS_H
 
-#include <stddef.h>
-#include <stdint.h>
+#include "image.h"
 
 enum call {
     CALL_CHECK, CALL_LIST, CALL_READ, CALL_SAVE, CALL_DELETE, CALL_RENAME,
     CALL_PROTECT, CALL_BLANK, CALL_VIEW, CALLS
 };
 
-/* Counts an answer, for each arrangement and for the wrong ones together; one
- * that the rules do not list for the call is a finding. */
-void count_answer(enum call call, uint32_t arrangement, uint32_t number);
+/* Counts an answer, for each kind of disc and each way to state none; one that
+ * the rules do not list for the call is a finding. With a kind of disc 1 is by
+ * the length. */
+void count_answer(enum call call, struct stated stated, uint32_t number);
 
 /* Counts what the check reports of an image that it does not refuse. */
-void count_rule(uint32_t arrangement, uint32_t rule);
+void count_rule(struct stated stated, uint32_t rule);
 
 /* From here on (or no longer) the calls are on a twin. They are counted by
- * themselves, so that what occurred in an arrangement occurred in a run with
+ * themselves, so that what occurred with a kind of disc occurred in a run with
  * all its promises. */
 void count_as_twin(int is_twin);
+
+/* What has to occur with each kind of disc beside answers and rules. */
+enum occasion {
+    GROWN_DIRECTORY,
+    FULL_DISC,
+    MOST_TRACKS,
+    EITHER_NUMBER, /* a sound disc as long as one with the other number */
+    RESTATED,      /* a disc that was sound with the other number */
+    OTHERS_LENGTH, /* refused: right for the other number alone */
+    SECTOR_ABOVE,  /* a view of the next one after a track's last sector */
+    OCCASIONS
+};
+
+/* What is stated is a kind of disc. */
+void count_occasion(struct stated stated, enum occasion occasion);
 
 /* Counts a sound disc by its files, directory sectors and free sectors. */
 void count_disc(size_t files, size_t directory, size_t free_sectors);

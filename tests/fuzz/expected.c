@@ -157,7 +157,8 @@ uint32_t expected_view(const struct image *image, const struct state *state,
 {
     if (!state->is_image)
         return TANDOS_SIZE;
-    if (track >= image->length / TANDOS_TRACK_SIZE || sector < 1 || sector > 10)
+    if (track >= tracks_of(image) || sector < 1 ||
+        sector > sectors_of(image->stated))
         return TANDOS_NO_SECTOR;
     return TANDOS_DONE;
 }

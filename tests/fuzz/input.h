@@ -1,7 +1,8 @@
 /*
- * The fuzzer's input, taken apart: one byte for the start, the arrangement and
- * what the start takes, then commands, each a byte and its arguments. Behind
- * the end of the input stand zeros. seeds.c writes the same form.
+ * The fuzzer's input, taken apart: one byte for the start, what is stated of
+ * the image and what the start takes, then commands, each a byte and its
+ * arguments. Behind the end of the input stand zeros. seeds.c writes the same
+ * form.
  */
 #ifndef INPUT_H
 #define INPUT_H
@@ -11,8 +12,8 @@
 
 /* The first byte of an input. */
 enum start {
-    START_BLANK, /* arrangement, tracks (1): a blank disc */
-    START_BYTES, /* arrangement, length (3), then all bytes of the input as the
+    START_BLANK, /* stated, tracks (1): a blank disc */
+    START_BYTES, /* stated, length (3), then all bytes of the input as the
                     image */
     STARTS
 };
@@ -34,16 +35,37 @@ enum command {
     COMMAND_LINK,    /* sector number (2), track (1), sector (1) */
     COMMAND_BYTE,    /* sector number (2), byte (1), value (1) */
     COMMAND_RESIZE,  /* length (3): cuts or prolongs the image */
-    COMMAND_STATED,  /* arrangement, any command above: stated for it alone */
+    COMMAND_STATED,  /* stated, any command above: stated for it alone */
     COMMANDS
 };
 
-/* An arrangement begins with a byte: 0 or 1 by its lowest bit; from
- * ARRANGEMENT_WRONG on one of the wrong numbers, by its remainder; last
- * ARRANGEMENT_NUMBER. */
-#define ARRANGEMENT_WRONG 0xF0
-#define WRONG_ARRANGEMENTS 8
-#define ARRANGEMENT_NUMBER 0xFF /* then a number */
+/* What is stated begins with a byte: one of the kinds of disc, by its
+ * remainder, or from STATED_WRONG on something that is wrong. */
+enum stated_kind { STATED_NINE, STATED_PLAIN, STATED_MOVED, STATED_KINDS };
+
+#define STATED_WRONG 0xC0 /* plus which of the wrong pairs */
+#define WRONG_PAIRS 32
+/* One byte more tells a small number, by its remainder, and by its quotient the
+ * other number, one of the two that are right. */
+#define STATED_SMALL_SECTORS 0xE0
+#define STATED_SMALL_ARRANGEMENT 0xF0
+#define SMALL_NUMBERS 21
+#define STATED_NUMBERS 0xFF /* then two numbers */
+
+/* Images are mostly of few tracks, on which calls take less time. Some lengths
+ * fit both numbers of sectors: EITHER_MOST of them. */
+#define SMALL_TRACKS 4
+#define EITHER_MOST 8
+
+/* The tracks of a blank disc: 1 to SMALL_TRACKS by the byte's remainder, or
+ * from here on */
+#define TRACKS_EITHER 208 /* a length that fits both, by the remainder */
+#define TRACKS_ANY 224    /* any number */
+
+/* A length: any where the highest byte is low, or from here on */
+#define LENGTH_EITHER 4 /* one that fits both, by the remainder */
+#define LENGTH_WHOLE 8  /* of few tracks, as stated */
+#define LENGTH_SMALL 64 /* any that is not above that of few tracks */
 
 /* A name begins with one of NAME_TYPED that are legal, or with its own
  * length. */
@@ -51,13 +73,13 @@ enum command {
 #define NAME_NULL 0xFF
 
 /* A sheet's length begins with one of these, by its remainder, or with
- * SHEET_LENGTH. They lie around what fills one, two, three, eight and
+ * SHEET_LENGTH. They lie around what fills one, two, three, seven, eight and
  * seventeen sectors, and around the longest. The sheet's bytes follow from one
  * more byte. */
 enum sheet {
     SHEET_1, SHEET_0, SHEET_244, SHEET_245, SHEET_246, SHEET_498, SHEET_499,
-    SHEET_751, SHEET_752, SHEET_2016, SHEET_2017, SHEET_4293, SHEET_65535,
-    SHEET_65536, SHEET_65537, SHEET_20000, SHEETS
+    SHEET_751, SHEET_752, SHEET_1763, SHEET_1764, SHEET_2016, SHEET_2017,
+    SHEET_4293, SHEET_65535, SHEET_65536, SHEET_65537, SHEET_20000, SHEETS
 };
 
 #define SHEET_LENGTH 0x40 /* or above, then the length (2) */
@@ -80,6 +102,11 @@ struct input {
     const uint8_t *end;
 };
 
+/* What is stated of an image, right or wrong. */
+struct stated {
+    uint32_t sectors, arrangement;
+};
+
 struct text {
     const uint8_t *bytes; /* NULL only with length 0 */
     size_t length;
@@ -92,7 +119,7 @@ struct name {
 
 uint32_t take(struct input *input, unsigned byte_count);
 uint32_t take_number(struct input *input);
-uint32_t take_arrangement(struct input *input);
+struct stated take_stated(struct input *input);
 void take_name(struct input *input, struct name *name);
 
 /* One of the legal names, by its number. */

@@ -4,7 +4,7 @@
 
 #include "finding.h"
 
-#define SECTORS_MOST (TANDOS_SECTORS_PER_TRACK * TANDOS_MAX_TRACKS)
+#define SECTORS_MOST (TANDOS_TEN * TANDOS_MAX_TRACKS)
 #define SLOTS 15
 #define SLOT_SIZE 16
 #define FIRST_SLOT 3
@@ -37,19 +37,20 @@ static struct link pointer_at(const uint8_t *bytes)
 static const uint8_t *sector_at(const struct image *image, struct link link)
 {
     return image->bytes +
-           sector_start(image->arrangement, link.track, link.sector);
+           sector_start(image->stated, link.track, link.sector);
 }
 
 /* Marks the sectors of a chain up to its end link and gives its length. */
 static size_t mark_chain(const struct image *image, struct link link)
 {
-    size_t tracks = image->length / TANDOS_TRACK_SIZE;
+    size_t tracks = tracks_of(image);
+    size_t sectors = sectors_of(image->stated);
     size_t length = 0;
 
     while (link.sector != 0) {
-        size_t number = 10 * link.track + link.sector - 1;
+        size_t number = sectors * link.track + link.sector - 1;
 
-        REQUIRE(link.track < tracks && link.sector <= 10 && number != 0,
+        REQUIRE(link.track < tracks && link.sector <= sectors && number != 0,
                 "a chain of a sound image leaves the disc or meets 0/1");
         REQUIRE(!is_met[number], "a sector of a sound image is in two places");
         is_met[number] = 1;

@@ -2,6 +2,7 @@
 
 #include <string.h>
 
+#include "blank.h"
 #include "expected.h"
 #include "finding.h"
 
@@ -91,7 +92,7 @@ static void require_absent(const struct moment *moment, struct text name)
     struct lent lent = lend(moment->image.bytes, moment->image.length);
 
     REQUIRE_EQUAL(TANDOS_ABSENT,
-                  call_read(&lent, moment->image.arrangement, name, 0).number,
+                  call_read(&lent, moment->image.stated, name, 0).number,
                   "read of a name that no longer stands");
     give_back_kept(&lent, moment->image.bytes, "read changes the image");
 }
@@ -192,33 +193,26 @@ void require_protected(const struct moment *before, const struct moment *after,
         require_refused(after, name);
 }
 
-/* A blank disc does not depend on the bytes that were there before. */
-static void require_same_from_elsewhere(const struct moment *before,
-                                        const struct moment *after,
-                                        struct text name)
+void require_blank_bytes(const struct image *image, const uint8_t *stored)
 {
-    static struct image other;
-    size_t i;
+    static struct image expected;
 
-    other.length = before->image.length;
-    other.arrangement = before->image.arrangement;
-    for (i = 0; i < other.length; i++)
-        other.bytes[i] = (uint8_t)~before->image.bytes[i];
-    REQUIRE_EQUAL(TANDOS_DONE, call_blank(&other, name), "a second blank");
-    REQUIRE(memcmp(other.bytes, after->image.bytes, other.length) == 0,
-            "a blank disc depends on what was there");
+    expected.length = image->length;
+    expected.stated = image->stated;
+    put_blank(&expected, stored);
+    REQUIRE(memcmp(expected.bytes, image->bytes, image->length) == 0,
+            "a blank disc has other bytes");
 }
 
-void require_blank(const struct moment *before, const struct moment *after,
-                   struct text name)
+void require_blank(const struct moment *after, struct text name)
 {
     uint8_t stored[TANDOS_NAME_SIZE];
 
     REQUIRE(store_disc_name(name, stored), "an illegal disc name is accepted");
+    require_blank_bytes(&after->image, stored);
     REQUIRE(memcmp(stored, after->state.disc_name, TANDOS_NAME_SIZE) == 0,
             "name of a blank disc");
     REQUIRE_EQUAL(0, after->state.file_count, "files of a blank disc");
     require_counts(&after->state,
                    after->image.length / TANDOS_SECTOR_SIZE - 2, 1);
-    require_same_from_elsewhere(before, after, name);
 }

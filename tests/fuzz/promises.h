@@ -21,7 +21,10 @@ void require_renamed(const struct moment *before, const struct moment *after,
                      struct text old_name, struct text new_name);
 void require_protected(const struct moment *before, const struct moment *after,
                        struct text name, uint32_t on);
-void require_blank(const struct moment *before, const struct moment *after,
-                   struct text name);
+void require_blank(const struct moment *after, struct text name);
+
+/* The image alone: each byte is that of the blank disc with these nine name
+ * bytes. */
+void require_blank_bytes(const struct image *image, const uint8_t *stored);
 
 #endif

@@ -2,6 +2,7 @@
 
 #include <string.h>
 
+#include "counters.h"
 #include "expected.h"
 #include "finding.h"
 #include "promises.h"
@@ -10,11 +11,6 @@
 /* More would slow each execution down and reach little that is new. */
 #define COMMANDS_MOST 100
 #define SAVES_MOST 20
-
-/* Inputs mostly give images of few tracks, on which calls take less time. */
-#define SMALL_STARTS 224
-#define SMALL_TRACKS 4
-#define ANY_LENGTHS 4 /* below this highest byte of three */
 
 /* Two moments, so that the one before a command is kept; too large for the
  * stack. */
@@ -63,7 +59,7 @@ static void run_list(struct input *input)
     size_t files = now->state.file_count;
     size_t length = take_buffer_length(input, TANDOS_LIST_SIZE(files));
     struct lent lent = lend(now->image.bytes, now->image.length);
-    tandos_listed listed = call_list(&lent, now->image.arrangement, length);
+    tandos_listed listed = call_list(&lent, now->image.stated, length);
 
     REQUIRE_EQUAL(expected_list(&now->state, length), listed.number, "list");
     if (listed.number == TANDOS_DONE)
@@ -85,7 +81,7 @@ static void run_read(struct input *input)
     if (store_name(name.text, stored))
         file = find(&now->state, stored);
     length = take_buffer_length(input, file == NULL ? 0 : file->reading.length);
-    reading = call_read(&lent, now->image.arrangement, name.text, length);
+    reading = call_read(&lent, now->image.stated, name.text, length);
     REQUIRE_EQUAL(expected_read(&now->state, name.text, length),
                   reading.number, "read");
     if (reading.number == TANDOS_DONE) {
@@ -199,7 +195,7 @@ static void run_blank(struct input *input)
     twin_blank(change_by(number), name.text);
     if (number == TANDOS_DONE) {
         end_command();
-        require_blank(before, now, name.text);
+        require_blank(now, name.text);
     }
 }
 
@@ -208,13 +204,15 @@ static void run_view(struct input *input)
     uint32_t track = take_number(input);
     uint32_t sector = take_number(input);
     struct lent lent = lend(now->image.bytes, now->image.length);
-    struct viewed viewed = call_view(&lent, now->image.arrangement, track,
-                                     sector);
+    struct viewed viewed = call_view(&lent, now->image.stated, track, sector);
 
     REQUIRE_EQUAL(expected_view(&now->image, &now->state, track, sector),
                   viewed.number, "view");
     twin_view(&now->image, viewed, track, sector);
     give_back_kept(&lent, now->image.bytes, "view changes the image");
+    if (now->state.is_image && track < tracks_of(&now->image) &&
+        sector == sectors_of(now->image.stated) + 1)
+        count_occasion(now->image.stated, SECTOR_ABOVE);
 }
 
 static void run_text(struct input *input)
@@ -231,9 +229,9 @@ static void run_text(struct input *input)
 static void change_sector(size_t number, size_t byte, const uint8_t *values,
                           size_t count)
 {
-    size_t at = byte + sector_start(now->image.arrangement,
-                                    number / TANDOS_SECTORS_PER_TRACK,
-                                    number % TANDOS_SECTORS_PER_TRACK + 1);
+    size_t sectors = sectors_of(now->image.stated);
+    size_t at = byte + sector_start(now->image.stated, number / sectors,
+                                    number % sectors + 1);
 
     if (at + count <= now->image.length)
         memcpy(now->image.bytes + at, values, count);
@@ -273,10 +271,15 @@ static void change_byte(struct input *input)
 static size_t take_image_length(struct input *input)
 {
     uint32_t length = take(input, 3);
+    uint32_t highest = length >> 16;
 
-    if (length >> 16 < ANY_LENGTHS)
+    if (highest < LENGTH_EITHER)
         return length % (IMAGE_MOST + 1);
-    return length % (TANDOS_IMAGE_SIZE(SMALL_TRACKS) + 1);
+    if (highest < LENGTH_WHOLE)
+        return EITHER_LENGTH * (1 + length % EITHER_MOST);
+    if (highest < LENGTH_SMALL)
+        return stated_length(now->image.stated, 1 + length % SMALL_TRACKS);
+    return length % (TANDOS_IMAGE_SIZE(SMALL_TRACKS, TANDOS_TEN) + 1);
 }
 
 static void resize(struct input *input)
@@ -338,16 +341,22 @@ static void run_command(enum command command, struct input *input)
     }
 }
 
-/* One command with another arrangement than the run's, right or wrong. For this
- * command the image is whatever it is as stated. */
+/* One command with other numbers stated than the run's, right or wrong. For
+ * this command the image is whatever it is as stated. */
 static void run_stated(struct input *input)
 {
-    uint32_t of_the_run = now->image.arrangement;
+    struct stated of_the_run = now->image.stated;
+    int was_sound = is_state_known && now->state.is_sound;
 
-    now->image.arrangement = take_arrangement(input);
+    now->image.stated = take_stated(input);
     is_state_known = 0;
+    if (was_sound && is_image(&now->image) &&
+        sectors_of(now->image.stated) != sectors_of(of_the_run)) {
+        know_state();
+        count_occasion(now->image.stated, RESTATED);
+    }
     run_command((enum command)(take(input, 1) % COMMAND_STATED), input);
-    now->image.arrangement = of_the_run;
+    now->image.stated = of_the_run;
     is_state_known = 0;
 }
 
@@ -361,21 +370,30 @@ static void run_next(struct input *input)
         run_command(command, input);
 }
 
+static size_t take_blank_length(struct input *input)
+{
+    size_t byte = take(input, 1);
+
+    if (byte < TRACKS_EITHER)
+        return stated_length(now->image.stated, 1 + byte % SMALL_TRACKS);
+    if (byte < TRACKS_ANY)
+        return EITHER_LENGTH * (1 + byte % EITHER_MOST);
+    return stated_length(now->image.stated, 1 + byte * 31 % TANDOS_MAX_TRACKS);
+}
+
 static void start_blank(struct input *input)
 {
-    static const uint8_t name[] = "FUZZ";
-    struct text text;
-    size_t tracks = take(input, 1);
+    static const uint8_t stored[] = "FUZZ     ";
+    struct text name;
 
-    tracks = tracks < SMALL_STARTS ? 1 + tracks % SMALL_TRACKS
-                                   : 1 + tracks * 31 % TANDOS_MAX_TRACKS;
-    text.bytes = name;
-    text.length = sizeof name - 1;
-    now->image.length = TANDOS_IMAGE_SIZE(tracks);
+    name.bytes = stored;
+    name.length = 4;
+    now->image.length = take_blank_length(input);
     memset(now->image.bytes, 0x33, now->image.length);
-    REQUIRE_EQUAL(is_arrangement(now->image.arrangement) ? TANDOS_DONE
-                                                         : TANDOS_SIZE,
-                  call_blank(&now->image, text), "a first blank");
+    REQUIRE_EQUAL(is_image(&now->image) ? TANDOS_DONE : TANDOS_SIZE,
+                  call_blank(&now->image, name), "a first blank");
+    if (is_image(&now->image))
+        require_blank_bytes(&now->image, stored);
 }
 
 /* The input's bytes, again from the first where the image is longer. They are
@@ -397,7 +415,7 @@ void run_input(struct input *input)
     unsigned commands;
 
     is_state_known = 0;
-    now->image.arrangement = take_arrangement(input);
+    now->image.stated = take_stated(input);
     if (start == START_BLANK)
         start_blank(input);
     else

@@ -3,65 +3,21 @@
  * seeds FOLDER. Each stands at a boundary of the rules, so that the fuzzer
  * need not find the way there.
  */
-#include <stdarg.h>
 #include <stdio.h>
 #include <stdlib.h>
 #include <string.h>
 
-#include "input.h"
-
-#define SEED_MOST 4096
+#include "seed.h"
+#include "seeds_stated.h"
 
 /* On a disc of one track: 0/4 is the directory, 0/7 the first free sector. */
 #define SECTOR_DIRECTORY 3
 #define SECTOR_FIRST_FREE 6
 
-static uint8_t seed[SEED_MOST];
-static size_t seed_length;
-static const char *folder;
-static int arrangement; /* of the seeds that are written now: 0 or 1 */
-
-/* Appends bytes, given as int, up to the first that is negative. */
-static void put(int byte, ...)
+/* The free sectors of a blank disc. */
+static int free_of(int tracks)
 {
-    va_list bytes;
-
-    va_start(bytes, byte);
-    for (; byte >= 0 && seed_length < SEED_MOST; byte = va_arg(bytes, int))
-        seed[seed_length++] = (uint8_t)byte;
-    va_end(bytes);
-}
-
-/* `tracks` counts as in run.c: 0 to 3 are one to four tracks. */
-static void begin(int tracks)
-{
-    seed_length = 0;
-    put(START_BLANK, arrangement, tracks, -1);
-}
-
-static void save(int name, enum sheet sheet)
-{
-    put(COMMAND_SAVE, name, 1, 0x00, 0x00, 0x00, 0x20, (int)sheet, name, -1);
-}
-
-static void save_many(int first, int count)
-{
-    put(COMMAND_SAVES, count, first, SHEET_1, 1, -1);
-}
-
-static void end(const char *name)
-{
-    char path[1024];
-    FILE *file;
-    int length = snprintf(path, sizeof path, "%s/%s-%s", folder,
-                          arrangement == 0 ? "plain" : "moved", name);
-
-    file = length < (int)sizeof path ? fopen(path, "wb") : NULL;
-    if (file == NULL || fwrite(seed, 1, seed_length, file) != seed_length ||
-        fclose(file) != 0) {
-        perror(name);
-        exit(EXIT_FAILURE);
-    }
+    return seed_sectors * tracks - 2;
 }
 
 static void seed_commands(void)
@@ -75,7 +31,7 @@ static void seed_commands(void)
     put(COMMAND_PROTECT, 0, 1, COMMAND_DELETE, 0, COMMAND_RENAME, 0, 2, -1);
     put(COMMAND_PROTECT, 0, 0, COMMAND_RENAME, 0, 2, COMMAND_DELETE, 2, -1);
     put(COMMAND_RENAME, 1, 1, COMMAND_DELETE, 7, COMMAND_CHECK, -1);
-    put(COMMAND_VIEW, 0, 1, COMMAND_VIEW, 1, 1, COMMAND_VIEW, 0, 11, -1);
+    put(COMMAND_VIEW, 0, 1, COMMAND_VIEW, 1, 1, COMMAND_VIEW, 0, 0, -1);
     put(COMMAND_VIEW, NUMBER_WIDE, 0, 1, 0, 0, 1, COMMAND_TEXT, 11, -1);
     put(COMMAND_BLANK, NAME_TYPED + 2, 'A', '9', COMMAND_BLANK, NAME_NULL, -1);
     end("commands");
@@ -96,8 +52,8 @@ static void seed_refusals(void)
 static void seed_full(void)
 {
     begin(0);
-    save(0, SHEET_2017);
-    save(0, SHEET_2016);
+    save_sectors(0, free_of(1), 1);
+    save_sectors(0, free_of(1), 0);
     save(1, SHEET_1);
     put(COMMAND_DELETE, 0, -1);
     save(1, SHEET_1);
@@ -108,27 +64,29 @@ static void seed_full(void)
 /* Where the module alone would fit, and the directory has to grow. */
 static void seed_no_room_for_directory(void)
 {
-    begin(1);
+    begin(2);
     save_many(0, 14);
-    save(14, SHEET_499);
+    save_sectors(14, free_of(3) - 14 - 1, 0);
     save(15, SHEET_1);
     put(COMMAND_DELETE, 14, -1);
-    save(15, SHEET_246);
+    save_sectors(15, free_of(3) - 14 - 2, 0);
     save(16, SHEET_1);
     end("directory-no-room");
 }
 
 static void seed_directory(void)
 {
-    begin(1);
+    begin(2);
     save_many(0, 17);
     put(COMMAND_DELETE, 3, -1);
     save(40, SHEET_246);
     save(41, SHEET_1);
     end("directory");
-    /* 18 sectors are free: 17 files and a second directory sector. */
-    begin(1);
-    save_many(0, 18);
+    /* One free sector becomes the directory's second: the last save is one too
+     * many. */
+    begin(2);
+    save_many(0, 17);
+    save_many(17, free_of(3) - 17);
     put(COMMAND_DELETE, 0, COMMAND_DELETE, 16, -1);
     save(50, SHEET_246);
     save(51, SHEET_245);
@@ -172,14 +130,14 @@ static void seed_large(void)
 static void seed_most_tracks(void)
 {
     begin(0);
-    put(COMMAND_RESIZE, 0x00, 0x20, 0x03, COMMAND_BLANK, 0, -1);
+    resize(80 * seed_sectors, 0);
+    put(COMMAND_BLANK, 0, -1);
     save(0, SHEET_1);
-    put(COMMAND_VIEW, 79, 10, COMMAND_VIEW, 79, 2, COMMAND_VIEW, 80, 1, -1);
-    put(COMMAND_RESIZE, 0x00, 0x2A, 0x03, COMMAND_CHECK, -1);
-    put(COMMAND_LIST, BUFFER_LARGEST, COMMAND_READ, 0, BUFFER_LARGEST, -1);
-    put(COMMAND_VIEW, 0, 1, COMMAND_RENAME, 0, 1, COMMAND_PROTECT, 0, 1, -1);
-    put(COMMAND_DELETE, 0, COMMAND_BLANK, 0, -1);
-    save(3, SHEET_1);
+    put(COMMAND_VIEW, 79, seed_sectors, COMMAND_VIEW, 79, 2, -1);
+    put(COMMAND_VIEW, 80, 1, COMMAND_VIEW, 79, seed_sectors + 1, -1);
+    resize(81 * seed_sectors, 0);
+    put(COMMAND_CHECK, -1);
+    put_calls(0);
     end("most-tracks");
 }
 
@@ -191,7 +149,7 @@ static void seed_wide_numbers(void)
     put(COMMAND_PROTECT, 0, NUMBER_WIDE, 0, 1, 0, 0, COMMAND_DELETE, 0, -1);
     put(COMMAND_PROTECT, 0, NUMBER_WIDE, 0, 0, 1, 0, COMMAND_DELETE, 0, -1);
     put(COMMAND_VIEW, NUMBER_WIDE, 0, 0, 1, 0, 1, -1);
-    put(COMMAND_VIEW, 0, NUMBER_WIDE, 10, 1, 0, 0, -1);
+    put(COMMAND_VIEW, 0, NUMBER_WIDE, seed_sectors, 1, 0, 0, -1);
     put(COMMAND_VIEW, 0, NUMBER_WIDE, 1, 0, 1, 0, -1);
     put(COMMAND_TEXT, NUMBER_WIDE, 1, 1, 0, 0, -1);
     end("wide-numbers");
@@ -268,69 +226,90 @@ static void seed_unusual(void)
     put(COMMAND_BYTE, SECTOR_FIRST_FREE, 0, 2, 0xFE, -1);
     put(COMMAND_READ, 0, BUFFER_EXACT, COMMAND_DELETE, 0, -1);
     end("not-plain");
-    begin(0);
-    put(COMMAND_RESIZE, 0xFF, 0x09, 0, COMMAND_CHECK, COMMAND_LIST, 0, -1);
-    put(COMMAND_READ, 0, 0, COMMAND_DELETE, 0, COMMAND_RENAME, 0, 1, -1);
-    put(COMMAND_PROTECT, 0, 1, COMMAND_BLANK, 0, COMMAND_VIEW, 0, 1, -1);
-    put(COMMAND_SAVE, 0, 0, 0, 0, 0, 0, SHEET_1, 1, -1);
-    put(COMMAND_RESIZE, 0, 0, 0, COMMAND_CHECK, -1);
-    put(COMMAND_RESIZE, 0, 0x2A, 3, COMMAND_CHECK, -1);
-    end("sizes");
-    seed_length = 0;
-    put(START_BYTES, arrangement, 0x00, 0x0A, 0x00, -1);
+    begin_empty();
+    put(START_BYTES, seed_kind, 0x00, seed_sectors, 0x00, -1);
     put(COMMAND_CHECK, COMMAND_LIST, BUFFER_LARGEST, -1);
     put(COMMAND_BLANK, 0, COMMAND_READ, 0, 0, COMMAND_DELETE, 0, -1);
     end("bytes");
 }
 
-/* Each call with this arrangement stated and arguments that are right. */
-static void put_stated(int stated)
+/* Lengths that are refused, among them those of a track with one sector more or
+ * less, which for one of the two is the other number's. */
+static void seed_sizes(void)
 {
-    put(COMMAND_STATED, stated, COMMAND_CHECK, -1);
-    put(COMMAND_STATED, stated, COMMAND_LIST, BUFFER_LARGEST, -1);
-    put(COMMAND_STATED, stated, COMMAND_READ, 0, BUFFER_LARGEST, -1);
-    put(COMMAND_STATED, stated, COMMAND_VIEW, 0, 2, -1);
-    put(COMMAND_STATED, stated, -1);
-    save(1, SHEET_1);
-    put(COMMAND_STATED, stated, COMMAND_RENAME, 0, 2, -1);
-    put(COMMAND_STATED, stated, COMMAND_PROTECT, 0, 1, -1);
-    put(COMMAND_STATED, stated, COMMAND_DELETE, 0, -1);
-    put(COMMAND_STATED, stated, COMMAND_BLANK, 0, -1);
-}
+    int more;
 
-/* The same with arguments for which a later refusal holds as well. */
-static void put_stated_refused(int stated)
-{
-    put(COMMAND_STATED, stated, COMMAND_LIST, BUFFER_EMPTY, -1);
-    put(COMMAND_STATED, stated, COMMAND_READ, NAME_NULL, BUFFER_EMPTY, -1);
-    put(COMMAND_STATED, stated, COMMAND_VIEW, 0, 11, -1);
-    put(COMMAND_STATED, stated, -1);
-    save(NAME_NULL, SHEET_0);
-    put(COMMAND_STATED, stated, COMMAND_RENAME, 0, NAME_NULL, -1);
-    put(COMMAND_STATED, stated, COMMAND_PROTECT, NAME_NULL, 1, -1);
-    put(COMMAND_STATED, stated, COMMAND_DELETE, NAME_NULL, -1);
-    put(COMMAND_STATED, stated, COMMAND_BLANK, NAME_NULL, -1);
-}
-
-/* Single calls stated otherwise than the run. */
-static void seed_stated(void)
-{
-    char name[16];
-    int i;
-
-    for (i = 0; i < WRONG_ARRANGEMENTS; i++) {
-        begin(0);
-        save(0, SHEET_246);
-        put_stated(ARRANGEMENT_WRONG + i);
-        put_stated_refused(ARRANGEMENT_WRONG + i);
-        snprintf(name, sizeof name, "wrong-%d", i);
-        end(name);
-    }
     begin(0);
-    save(0, SHEET_246);
-    put_stated(1 - arrangement);
-    put_stated_refused(1 - arrangement);
-    end("stated-otherwise");
+    for (more = -1; more <= 1; more += 2) {
+        resize(seed_sectors + more, 0);
+        put_calls(0);
+        resize(seed_sectors, more);
+        put_calls(0);
+    }
+    resize(0, 0);
+    put_calls(0);
+    end("sizes");
+}
+
+/* In the seeds that follow, the first sector of a track is named as one more of
+ * the track before, so that only the number of sectors keeps it off the disc.
+ * First in a link. */
+static void put_above_link(int sector, int track)
+{
+    put(COMMAND_LINK, sector, 0, track, seed_sectors + 1, -1);
+}
+
+/* In the second entry, where its first or its last sector stands. */
+static void put_above_pointer(int byte)
+{
+    int at = 3 + 16 + byte;
+
+    put(COMMAND_BYTE, SECTOR_DIRECTORY, 0, at, seed_sectors + 1, -1);
+    put(COMMAND_BYTE, SECTOR_DIRECTORY, 0, at + 1, 0, -1);
+}
+
+static void end_above(const char *name)
+{
+    put(COMMAND_CHECK, -1);
+    put_calls(0);
+    end(name);
+}
+
+static void seed_above(void)
+{
+    int last_passing = seed_kind == STATED_NINE ? 9 : 8;
+
+    begin(1);
+    put_above_link(last_passing - 1, 0);
+    end_above("above-free-link");
+    begin(1);
+    save_sectors(0, seed_sectors - 1, 0);
+    put_above_link(last_passing - 1, 0);
+    end_above("above-file-link");
+    begin(1);
+    save_sectors(0, free_of(1), 0);
+    put(COMMAND_SYSTEM, 0, seed_sectors + 1, COMMAND_SYSTEM, 1, 0, -1);
+    end_above("above-free");
+    /* 16 files: the directory's second sector is the first of track 2. */
+    begin(2);
+    save_sectors(0, free_of(2) - 15, 0);
+    save_many(1, 15);
+    put_above_link(SECTOR_DIRECTORY, 1);
+    end_above("above-directory");
+}
+
+static void seed_above_entry(void)
+{
+    begin(1);
+    save_sectors(0, free_of(1), 0);
+    save(1, SHEET_1);
+    put_above_pointer(11);
+    end_above("above-first");
+    begin(1);
+    save_sectors(0, free_of(1), 0);
+    save(1, SHEET_1);
+    put_above_pointer(13);
+    end_above("above-last");
 }
 
 /* Every sector of two tracks shown, so that each has to be in its place. */
@@ -342,7 +321,7 @@ static void seed_views(void)
     save(0, SHEET_2016);
     save(1, SHEET_2016);
     for (track = 0; track < 2; track++)
-        for (sector = 1; sector <= 10; sector++)
+        for (sector = 1; sector <= seed_sectors + 1; sector++)
             put(COMMAND_VIEW, track, sector, -1);
     end("views");
 }
@@ -360,30 +339,26 @@ static void write_seeds(void)
     seed_names();
     seed_rules();
     seed_unusual();
-    seed_stated();
+    seed_sizes();
+    seed_above();
+    seed_above_entry();
     seed_views();
-}
-
-/* A run that states a wrong arrangement from its start on. */
-static void seed_wrong_run(void)
-{
-    seed_length = 0;
-    put(START_BLANK, ARRANGEMENT_WRONG, 0, -1);
-    save(0, SHEET_1);
-    put(COMMAND_BLANK, 0, COMMAND_CHECK, COMMAND_LIST, BUFFER_LARGEST, -1);
-    end("wrong-run");
+    write_stated_seeds();
 }
 
 int main(int argc, char **argv)
 {
+    int kind;
+
     if (argc != 2) {
         fputs("usage: seeds FOLDER\n", stderr);
         return EXIT_FAILURE;
     }
-    folder = argv[1];
-    for (arrangement = 0; arrangement <= 1; arrangement++)
+    seed_folder = argv[1];
+    for (kind = 0; kind < STATED_KINDS; kind++) {
+        choose_kind((enum stated_kind)kind);
         write_seeds();
-    arrangement = 0;
-    seed_wrong_run();
+    }
+    write_wrong_runs();
     return EXIT_SUCCESS;
 }

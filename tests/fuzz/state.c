@@ -69,9 +69,9 @@ static void take_file_record(struct file *file, const uint8_t *record)
 }
 
 static void take_list(struct state *state, const struct lent *lent,
-                      uint32_t arrangement)
+                      struct stated stated)
 {
-    tandos_listed listed = call_list(lent, arrangement, TANDOS_LIST_MAX);
+    tandos_listed listed = call_list(lent, stated, TANDOS_LIST_MAX);
     size_t frame = TANDOS_LIST_SIZE(0);
     size_t i;
 
@@ -88,14 +88,14 @@ static void take_list(struct state *state, const struct lent *lent,
 }
 
 static void take_reading(struct file *file, const struct lent *lent,
-                         uint32_t arrangement)
+                         struct stated stated)
 {
     size_t room = 245 + 253 * (file->sectors - 1);
     struct name name;
     tandos_reading reading;
 
     type_name(file->name, &name);
-    reading = call_read(lent, arrangement, name.text,
+    reading = call_read(lent, stated, name.text,
                         room < TANDOS_SHEET_MAX ? room : TANDOS_SHEET_MAX);
     file->reading = reading;
     file->hash = hash_of(answer, reading.length);
@@ -133,15 +133,28 @@ static void require_sums(struct state *state, const struct image *image)
 static void take_check(struct state *state, const struct image *image,
                        const struct lent *lent)
 {
-    size_t tracks = image->length / TANDOS_TRACK_SIZE;
-
-    state->is_image = image->length % TANDOS_TRACK_SIZE == 0 && tracks >= 1 &&
-                      tracks <= TANDOS_MAX_TRACKS &&
-                      is_arrangement(image->arrangement);
-    state->checked = call_check(lent, image->arrangement);
+    state->is_image = is_image(image);
+    state->checked = call_check(lent, image->stated);
     REQUIRE_EQUAL(state->is_image ? TANDOS_DONE : TANDOS_SIZE,
                   state->checked.number, "number of a check");
     state->is_sound = state->is_image && state->checked.rule == 0;
+    if (!state->is_image && kind_of(image->stated) < DISC_KINDS &&
+        is_length(image->length, other_sectors(image->stated)))
+        count_occasion(image->stated, OTHERS_LENGTH);
+}
+
+static void count_sound(const struct image *image, const struct state *state)
+{
+    count_disc(state->file_count, state->directory_sectors,
+               state->free_sectors);
+    if (state->directory_sectors > 1)
+        count_occasion(image->stated, GROWN_DIRECTORY);
+    if (state->free_sectors == 0)
+        count_occasion(image->stated, FULL_DISC);
+    if (tracks_of(image) == TANDOS_MAX_TRACKS)
+        count_occasion(image->stated, MOST_TRACKS);
+    if (is_length(image->length, other_sectors(image->stated)))
+        count_occasion(image->stated, EITHER_NUMBER);
 }
 
 void look(const struct image *image, struct state *state)
@@ -152,12 +165,11 @@ void look(const struct image *image, struct state *state)
     take_check(state, image, &lent);
     state->file_count = 0;
     if (state->is_sound) {
-        take_list(state, &lent, image->arrangement);
+        take_list(state, &lent, image->stated);
         require_sums(state, image);
         for (i = 0; i < state->file_count; i++)
-            take_reading(&state->files[i], &lent, image->arrangement);
-        count_disc(state->file_count, state->directory_sectors,
-                   state->free_sectors);
+            take_reading(&state->files[i], &lent, image->stated);
+        count_sound(image, state);
     }
     give_back_kept(&lent, image->bytes, "check, list or read change the image");
 }

@@ -15,7 +15,7 @@ struct file {
 };
 
 struct state {
-    int is_image; /* length and arrangement are right: nothing answers 1 */
+    int is_image; /* length and what is stated are right: nothing answers 1 */
     int is_sound;
     tandos_checked checked;
     /* The rest is said of sound images alone. */

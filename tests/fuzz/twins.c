@@ -13,7 +13,9 @@ static uint8_t first_answer[BUFFER_MOST];
 /* 0 if there is no twin. */
 static int begin_twin(const struct image *image)
 {
-    if (!is_arrangement(image->arrangement))
+    enum kind kind = kind_of(image->stated);
+
+    if (kind != KIND_PLAIN && kind != KIND_MOVED)
         return 0;
     rearrange(&twin, image);
     count_as_twin(1);
@@ -45,7 +47,7 @@ void twin_check(const struct image *image, tandos_checked checked)
     if (!begin_twin(image))
         return;
     lent = lend_twin();
-    found = call_check(&lent, twin.arrangement);
+    found = call_check(&lent, twin.stated);
     REQUIRE_EQUAL(checked.number, found.number, "check of the twin");
     REQUIRE_EQUAL(checked.rule, found.rule, "rule of the twin");
     end_reading(&lent);
@@ -61,7 +63,7 @@ void twin_list(const struct image *image, tandos_listed listed,
         return;
     memcpy(first_answer, answer, listed.length);
     lent = lend_twin();
-    found = call_list(&lent, twin.arrangement, buffer_length);
+    found = call_list(&lent, twin.stated, buffer_length);
     REQUIRE_EQUAL(listed.number, found.number, "list of the twin");
     REQUIRE_EQUAL(listed.length, found.length, "length of the twin's list");
     require_same_answer(listed.length);
@@ -78,7 +80,7 @@ void twin_read(const struct image *image, const tandos_reading *reading,
         return;
     memcpy(first_answer, answer, reading->length);
     lent = lend_twin();
-    found = call_read(&lent, twin.arrangement, name, buffer_length);
+    found = call_read(&lent, twin.stated, name, buffer_length);
     REQUIRE(memcmp(reading, &found, sizeof found) == 0,
             "the twin's reading differs");
     require_same_answer(reading->length);
@@ -94,7 +96,7 @@ void twin_view(const struct image *image, struct viewed viewed, uint32_t track,
     if (!begin_twin(image))
         return;
     lent = lend_twin();
-    found = call_view(&lent, twin.arrangement, track, sector);
+    found = call_view(&lent, twin.stated, track, sector);
     REQUIRE_EQUAL(viewed.number, found.number, "view of the twin");
     if (viewed.number == TANDOS_DONE)
         REQUIRE(memcmp(viewed.bytes, found.bytes, TANDOS_VIEW_SIZE) == 0,

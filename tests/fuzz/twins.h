@@ -1,8 +1,9 @@
 /*
- * An image's twin is the same disc in the other arrangement. A call on it
- * answers the same, writes the same to its buffer, and leaves the twin of what
- * it leaves in the image. Each function makes the call once more, on the twin,
- * and expects this; an image with a wrong arrangement has no twin.
+ * A twin is the same disc of ten sectors a track in the other arrangement. A
+ * call on it answers the same, writes the same to its buffer, and leaves the
+ * twin of what it leaves in the image. Each function makes the call once more,
+ * on the twin, and expects this. Discs of nine, which have one arrangement, and
+ * images of which something wrong is stated have no twin.
  *
  * It is asked of each call that a command of the input makes, and of the check
  * of an image at the start or after a change that no call made. It is not asked

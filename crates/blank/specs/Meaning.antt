@@ -1,18 +1,14 @@
--- What the code of the blank disc goes by: a geometry of ten sectors a track, the sector at a place of the passing order, and sectors of zeros.
+-- What the code of the blank disc goes by: the sector at a place of the passing order, and sectors of zeros.
 -- Assumes nothing.
 use mathlib.Core.Path.{_≡_}
 use Prim.Native.Nat.{ℕ, _<_}
 use lib.ListN.{length, drop, replicate}
-use Rattle.format.specs.Geometry.{ten, Disc, sector}
+use Rattle.format.specs.Geometry.{Disc, sector}
 use Rattle.format.specs.Layout.{trackByte, sectorByte}
 use Rattle.format.specs.Effects.{body, headOf, passing}
 use Rattle.disc.specs.Meaning.{geo}
 use Rattle.disc.specs.declared.Geometry.{Geometry}
 use Rattle.disc.specs.declared.Place.{Place}
-
--- as many sectors a track as the passing order has
-abbrev pub Ten : Geometry → Type 0
-Ten g = geo g .perTrack ≡ ten .perTrack
 
 -- track and sector byte of what stands at place k of the passing order: of a sector, or zeros after the last
 pub record Passed (g : Geometry) (k : ℕ) (r : Place) : Type 0 where

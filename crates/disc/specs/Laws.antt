@@ -1,27 +1,29 @@
 -- Laws of Meaning: what the code's answers say of an image, sector numbers and links; and what a loop of stores does.
 -- Assumes nothing.
 use mathlib.Core.Path.{_≡_, refl, sym, ap, ap₂, _∙_, subst}
-use Prim.Native.Nat.{ℕ, zero, suc, _+_, _*_, _/_, _%_, _-_, _^_, _≤_, _<_}
+use Prim.Native.Nat.{ℕ, zero, suc, _+_, _*_, _/_, _%_, _^_, _≤_, _<_}
 use native.Mathlib.Omega.{arith}
-use native.Mathlib.Decide.{decLe}
+use mathlib.Core.Logic.{_≢_}
+use native.Mathlib.Decide.{decLe, ℕ-discrete}
 use native.Mathlib.Nat.{lt-of-not-le, mul-pos, mul-le-mul}
 use native.Mathlib.Numerals.{add-one}
-use mathlib.Core.Bool.{Bool, true, false, not, _&&_, cond}
+use mathlib.Core.Bool.{Bool, true, false, not, _&&_, cond, true≢false}
 use mathlib.Core.List.{List, [], _∷_, append-nil}
 use lib.Dec.{eqb, leb, ltb}
 use lib.ListN.{length, getD, set, drop, drop-of-length-le}
 use lib.Seq.{sets, sets-eq, drop-cons}
-use borrow.Author.Tests.{eqb-true, leb-true, ltb-true}
-use Rattle.format.specs.Lists.{byte, range, indexOf, Once}
-use Rattle.format.specs.ListLaws.{all-range, all-true, all-getD, and-true}
+use borrow.Author.Tests.{eqb-true, leb-true, ltb-true, eq-eqb, ne-eqb, le-leb}
+use Rattle.format.specs.Lists.{byte, range, indexOf}
+use Rattle.format.specs.ListLaws.{all-range, all-true, and-true}
 use Rattle.format.specs.Refusals.{Try, Refusal, SIZE, refused, ok, refuse_if_, _>>_}
 use Rattle.format.specs.Geometry as format
-use Rattle.format.specs.Geometry.{Format, ten, tenMoved, stated, arranged, tracked, geometry, onDisc, sectorNumber, placeOf, startOf, flat, sector, pointed}
-use Rattle.format.specs.Arrangements.{Arranged, in-order-once, index-range}
-use Rattle.format.specs.MovingLaws.{passing-arranged}
-use Rattle.format.specs.GeometryLaws.{Full, byte-cut, cut-full, flat-cut, place-below, plain-place, other-number, same-length, geometry-ok, on-disc-is, number-below, track-back, sector-back, OnDisc, pointed-on}
-use Rattle.disc.specs.Meaning.{packed, placesOf, placeAfter, arrangementOf, form, geo, sized, sizedAs, meaning, sectorsOf, Valid, Inside, Image, Starts, Lies, Reaches}
+use Rattle.format.specs.Geometry.{Format, ten, tenMoved, nine, unknown, stated, tracked, geometry, onDisc, sectorNumber, placeOf, startOf, flat, sector, pointed}
+use Rattle.format.specs.Arrangements.{Arranged, index-range}
+use Rattle.format.specs.Formats.{GoodFormat, ten-good, moved-good, nine-good, other-arrangement, other-sectors, nine-moved}
+use Rattle.format.specs.GeometryLaws.{Full, byte-cut, cut-full, flat-cut, place-below, plain-place, no-disc, geometry-ok, geometry-rest, geometry-none, geometry-many, geometry-done, on-disc-is, number-below, track-back, sector-back, OnDisc, pointed-on}
+use Rattle.disc.specs.Meaning.{kindOf, known, wholeTracks, packed, placesOf, placeIn, formed, form, geo, sized, sizedAs, meaning, sectorsOf, Valid, Inside, Image, Starts, Lies, Reaches, Stop}
 use Rattle.disc.specs.declared.Geometry.{Geometry}
+use Rattle.disc.specs.declared.Stated.{Stated}
 use Rattle.disc.specs.declared.Sector.{Sector}
 use Rattle.disc.specs.declared.Step as code
 use Rattle.disc.specs.declared.Step.{Step}
@@ -29,167 +31,283 @@ use Rattle.disc.specs.declared.Sized.the-variants.{Of, Wrong}
 use Rattle.disc.specs.declared.Link.{Link}
 use Rattle.disc.specs.declared.Link.the-variants.{End, To, Off}
 
+-- ---- what a caller states
+
+-- what holds of ten sectors, plain and moved, and of nine holds of every kind of disc that there is
+pub kinds : (P : ℕ → ℕ → Type 0) → P 10 0 → P 10 1 → P 9 0 → (s a : ℕ) → 9 ≤ s → s ≤ 10 → a ≤ 1 → 10 * a ≤ s → P s a
+kinds P plain moved early s zero low high b c = elim (ℕ-discrete s 9) [
+  | yes e ↦ subst (λ (s : ℕ). P s 0) (sym e) early
+  | no e ↦ let is : 10 ≡ s = omega arith in subst (λ (s : ℕ). P s 0) is plain
+]
+kinds P plain moved early s (suc zero) low high b c = let is : 10 ≡ s = omega arith in subst (λ (s : ℕ). P s 1) is moved
+kinds P plain moved early s (suc (suc a)) low high b c = absurd (omega arith)
+
+pub known-is : (s : Stated) → known s ≡ true
+    → (9 ≤ s .sectors) × (s .sectors ≤ 10) × (s .arrangement ≤ 1) × (10 * s .arrangement ≤ s .sectors)
+known-is s e = elim (ℕ-discrete (s .sectors) 10) [
+  | yes ten ↦ let a = leb-true (s .arrangement) 1 (rw (eq-eqb (s .sectors) 10 ten) at e) in (omega arith, omega arith, a, omega arith)
+  | no other ↦
+      let h = and-true (eqb (s .arrangement) 0) (eqb (s .sectors) 9) (rw (ne-eqb (s .sectors) 10 other) at e) in
+      let plain = eqb-true (s .arrangement) 0 (h .0) in
+      let nine = eqb-true (s .sectors) 9 (h .1) in
+      (omega arith, omega arith, omega arith, omega arith)
+]
+
+pub known-not : (s : Stated) → known s ≡ false → kindOf s ≡ unknown
+known-not s e = elim (decLe (s .arrangement) 1) [
+  | no a ↦ other-arrangement (s .sectors) (s .arrangement) (lt-of-not-le a)
+  | yes a ↦ elim (ℕ-discrete (s .sectors) 10) [
+    | yes ten ↦ absurd (true≢false (sym (le-leb (s .arrangement) 1 a) ∙ (rw (eq-eqb (s .sectors) 10 ten) at e)))
+    | no other ↦ elim (ℕ-discrete (s .sectors) 9) [
+      | no none ↦ other-sectors (s .sectors) (s .arrangement) none other
+      | yes nine ↦ elim (ℕ-discrete (s .arrangement) 0) [
+        | yes plain ↦ absurd (true≢false (rw (ne-eqb (s .sectors) 10 other, eq-eqb (s .arrangement) 0 plain, eq-eqb (s .sectors) 9 nine) at e))
+        | no moved ↦ let one : s .arrangement ≡ 1 = omega arith in ap₂ stated nine one ∙ nine-moved
+      ]
+    ]
+  ]
+]
+
+stated-per-track : (s a : ℕ) → 9 ≤ s → s ≤ 10 → a ≤ 1 → 10 * a ≤ s → stated s a .perTrack ≡ s
+unfolding stated ten tenMoved nine
+stated-per-track = kinds (λ s a. stated s a .perTrack ≡ s) refl refl refl
+
+pub known-per-track : (s : Stated) → known s ≡ true → kindOf s .perTrack ≡ s .sectors
+known-per-track s e = let k = known-is s e in stated-per-track (s .sectors) (s .arrangement) (k .0) (k .1) (k .2) (k .3)
+
 -- ---- the geometry of a length
 
--- the two kinds of disc that there are
-stated-known : (a : ℕ) → a ≤ 1 → stated a ≡ arranged (arrangementOf 10 a) ten
-unfolding stated tenMoved ten arrangementOf
-stated-known zero h = refl
-stated-known (suc zero) h = refl
-stated-known (suc (suc a)) h = absurd (omega arith)
-
--- a length is right for both arrangements or for none
-pub as-known : (a n : ℕ) → a ≤ 1 → sizedAs a n ≡ sized a (geometry ten n)
-unfolding sizedAs geometry
-as-known a n h = rw (stated-known a h)
-
-pub as-unknown : (a n : ℕ) → 1 < a → sizedAs a n ≡ Wrong
-unfolding sizedAs
-as-unknown a n h = rw (other-number a h n)
-
 -- what an accepted length says of the geometry
-record Agrees (a n : ℕ) (g : Geometry) : Type 0 where
-  is : geometry ten n ≡ ok (geo g)
-  as-stated : g .arrangement ≡ a
+record Agrees (s : Stated) (n : ℕ) (g : Geometry) : Type 0 where
+  is : geometry (kindOf s) n ≡ ok (tracked (kindOf s) (g .tracks))
+  same-track : g .«per_track» ≡ kindOf s .perTrack
+  as-stated : g .arrangement ≡ s .arrangement
   placed : g .places ≡ placesOf (g .arrangement)
   total : g .sectors ≡ format.sectors (geo g)
 
-agrees : (a n : ℕ) (g : Geometry) (t : Try Refusal format.Geometry) → geometry ten n ≡ t → sized a t ≡ Of g → Agrees a n g
-agrees a n g (refused e) p q = let z : _≡_ {A = ℕ} 0 1 = cc in absurd (omega arith)
-agrees a n g (ok G) p q =
-    let code : Geometry = record { tracks = G .tracks; «per_track» = G .perTrack; sectors = format.sectors G; arrangement = a; places = placesOf a } in
+agrees : (s : Stated) (n : ℕ) (g : Geometry) (t : Try Refusal format.Geometry) → geometry (kindOf s) n ≡ t → sized s t ≡ Of g → Agrees s n g
+agrees s n g (refused e) p q = let z : _≡_ {A = ℕ} 0 1 = cc in absurd (omega arith)
+agrees s n g (ok G) p q =
     let e : code ≡ g = cc in
-    let in-order : G ≡ geo code = ap (λ (o : List ℕ). record { tracks = G .tracks; perTrack = G .perTrack; order = o }) (geometry-ok ten n G p .in-order) in
+    let i = geometry-ok (kindOf s) n G p in
+    let is : G ≡ tracked (kindOf s) (g .tracks) =
+    ap₂ (λ (k : ℕ) (o : List ℕ). record { tracks = G .tracks; perTrack = k; order = o }) (i .per-track) (i .in-order)
+    ∙ ap (λ (g : Geometry). tracked (kindOf s) (g .tracks)) e in
     record {
-      is = p ∙ ap ok (in-order ∙ ap geo e);
+      is = p ∙ ap ok is;
+      same-track = sym (ap (λ (g : Geometry). g .«per_track») e) ∙ i .per-track;
       as-stated = sym (ap (λ (g : Geometry). g .arrangement) e);
       placed = subst (λ (g : Geometry). g .places ≡ placesOf (g .arrangement)) e refl;
       total = subst (λ (g : Geometry). g .sectors ≡ format.sectors (geo g)) e refl;
     }
+  where
+    code : Geometry
+    code =
+        record {
+          tracks = G .tracks;
+          «per_track» = G .perTrack;
+          sectors = format.sectors G;
+          arrangement = s .arrangement;
+          places = placesOf (s .arrangement);
+        }
 
 -- what an accepted image is: of the kind F, of this geometry, and as long
 pub record Opened (F : Format) (g : Geometry) (image : List ℕ) : Type 0 where
   pub kind-is : F ≡ form g
   pub geometry-is : geometry (form g) (length image) ≡ ok (geo g)
-  pub ten-on-track : geo g .perTrack ≡ ten .perTrack
   pub on-image : Image g image
 
-module _ (g : Geometry) (image : List ℕ) (a : ℕ) where
-  opened-known : a ≤ 1 → Agrees a (length image) g → Opened (stated a) g image
-  unfolding ten
-  opened-known known r =
-      let i = geometry-ok ten (length image) (geo g) (r .is) in
-      let some : 0 < geo g .perTrack = omega arith in
-      let few : geo g .perTrack ≤ 10 = omega arith in
-      let formed : arranged (arrangementOf 10 a) ten ≡ form g =
-      ap₂ (λ (k m : ℕ). record { perTrack = k; order = ten .order; arrangement = arrangementOf k m }) (sym (i .per-track)) (sym (r .as-stated)) in
+module _ (g : Geometry) (image : List ℕ) (s : Stated) where
+  opened-known : known s ≡ true → Agrees s (length image) g → Opened (kindOf s) g image
+  opened-known e r =
+      let k = known-is s e in
+      let i = geometry-ok (kindOf s) (length image) (tracked (kindOf s) (g .tracks)) (r .is) in
+      let per : g .«per_track» ≡ s .sectors = r .same-track ∙ known-per-track s e in
+      let some : 0 < geo g .perTrack = omega (arith, k .0) in
+      let low : 9 ≤ geo g .perTrack = omega (arith, k .0) in
+      let high : geo g .perTrack ≤ 10 = omega (arith, k .1) in
+      let kind-is : kindOf s ≡ form g =
+      ap₂ (λ (p : ℕ) (F : Format). record { perTrack = p; order = F .order; arrangement = F .arrangement })
+      (sym (r .same-track)) (ap₂ stated (sym per) (sym (r .as-stated))) in
+      let long : 256 * format.sectors (tracked (kindOf s) (g .tracks)) ≡ 256 * g .sectors =
+      ap (λ (F : Format). 256 * format.sectors (tracked F (g .tracks))) kind-is ∙ ap (λ (n : ℕ). 256 * n) (sym (r .total)) in
       record {
-        kind-is = stated-known a known ∙ formed;
-        geometry-is = sym (ap (λ (F : Format). geometry F (length image)) formed) ∙ same-length ten (arrangementOf 10 a) (length image) ∙ r .is;
-        ten-on-track = i .per-track;
+        kind-is = kind-is;
+        geometry-is = subst (λ (F : Format). geometry F (length image) ≡ ok (tracked F (g .tracks))) kind-is (r .is);
         on-image = record {
           valid = record {
             some-on-track = some;
-            few-on-track = few;
-            arranged-as = omega (arith, r .as-stated);
-            moved-ten = omega (arith, r .as-stated);
+            nine-on-track = low;
+            few-on-track = high;
+            arranged-as = omega (arith, r .as-stated, k .2);
+            moved-ten = omega (arith, r .as-stated, per, k .3);
             placed-as = r .placed;
             some-track = i .some-track;
             few-tracks = i .few-tracks;
             total = r .total;
             some-sectors = omega (arith, mul-pos some (i .some-track), r .total);
-            few-sectors = omega (arith, mul-le-mul few (i .few-tracks), r .total);
+            few-sectors = omega (arith, mul-le-mul high (i .few-tracks), r .total);
           };
-          long = omega (arith, r .total);
+          long = i .long ∙ long;
         };
       }
 
   -- an image of an accepted length
-  pub opened : sizedAs a (length image) ≡ Of g → Opened (stated a) g image
-  opened e = elim (decLe a 1) [
-    | yes known ↦ opened-known known (agrees a (length image) g _ refl (sym (as-known a (length image) known) ∙ e))
-    | no other ↦ let z : _≡_ {A = ℕ} 0 1 = cc (as-unknown a (length image) (lt-of-not-le other)) in absurd (omega arith)
-  ]
+  pub opened : sizedAs s (length image) ≡ Of g → Opened (kindOf s) g image
+  unfolding sizedAs
+  opened e = by (known s) refl
+    where
+      by : (b : Bool) → known s ≡ b → Opened (kindOf s) g image
+      by true k = opened-known k (agrees s (length image) g _ refl e)
+      by false k = let z : _≡_ {A = ℕ} 0 1 = cc (ap (λ (F : Format). geometry F (length image)) (known-not s k) ∙ no-disc (length image)) in absurd (omega arith)
 
 -- a refused length
-pub geometry-wrong : (a n : ℕ) → sizedAs a n ≡ Wrong → geometry (stated a) n ≡ refused SIZE
+pub geometry-wrong : (s : Stated) (n : ℕ) → sizedAs s n ≡ Wrong → geometry (kindOf s) n ≡ refused SIZE
 unfolding sizedAs geometry refuse_if_ _>>_
-geometry-wrong a n e = by (tracked F (n / track)) (not (eqb (n % track) 0 && leb 1 (n / track) && leb (n / track) 80)) e
+geometry-wrong s n e = by (tracked F (n / track)) (not (eqb (n % track) 0 && leb 1 (n / track) && leb (n / track) 80)) e
   where
     F : Format
-    F = stated a
+    F = kindOf s
 
     track : ℕ
     track = 256 * F .perTrack
 
-    by : (G : format.Geometry) (b : Bool) → sized a (refuse SIZE if b >> ok G) ≡ Wrong → (refuse SIZE if b >> ok G) ≡ refused SIZE
+    by : (G : format.Geometry) (b : Bool) → sized s (refuse SIZE if b >> ok G) ≡ Wrong → (refuse SIZE if b >> ok G) ≡ refused SIZE
     by G true e = refl
     by G false e = cc
 
+pub sized-unknown : (s : Stated) (n : ℕ) → known s ≡ false → sizedAs s n ≡ Wrong
+unfolding sizedAs
+sized-unknown s n e = ap (sized s) (ap (λ (F : Format). geometry F n) (known-not s e) ∙ no-disc n)
+
+-- the cases of the tracks in a length
+pub whole-tracks : (s n : ℕ) → n % (256 * s) ≡ 0 → wholeTracks s n ≡ n / (256 * s)
+whole-tracks s n e = rw (eq-eqb (n % (256 * s)) 0 e)
+
+pub part-tracks : (s n : ℕ) → n % (256 * s) ≢ 0 → wholeTracks s n ≡ 0
+part-tracks s n e = rw (ne-eqb (n % (256 * s)) 0 e)
+
+-- T tracks in a length, as the code tests them
+module _ (s : Stated) (e : known s ≡ true) (n T : ℕ) (is : T ≡ wholeTracks (s .sectors) n) where
+  as-kind : T ≡ wholeTracks (kindOf s .perTrack) n
+  as-kind = is ∙ ap (λ (k : ℕ). wholeTracks k n) (sym (known-per-track s e))
+
+  -- some tracks, and no rest
+  some : 1 ≤ T → (n % (256 * kindOf s .perTrack) ≡ 0) × (T ≡ n / (256 * kindOf s .perTrack))
+  some h = elim (ℕ-discrete (n % (256 * kindOf s .perTrack)) 0) [
+    | yes z ↦ (z, as-kind ∙ whole-tracks (kindOf s .perTrack) n z)
+    | no z ↦ absurd (omega (arith, as-kind, part-tracks (kindOf s .perTrack) n z))
+  ]
+
+  none : T < 1 → geometry (kindOf s) n ≡ refused SIZE
+  none h = elim (ℕ-discrete (n % (256 * kindOf s .perTrack)) 0) [
+    | yes z ↦ geometry-none (kindOf s) n z (omega (arith, as-kind, whole-tracks (kindOf s .perTrack) n z))
+    | no z ↦ geometry-rest (kindOf s) n z
+  ]
+
+  pub sized-none : T < 1 → sizedAs s n ≡ Wrong
+  unfolding sizedAs
+  sized-none h = ap (sized s) (none h)
+
+  pub sized-many : 1 ≤ T → 80 < T → sizedAs s n ≡ Wrong
+  unfolding sizedAs
+  sized-many k l = let w = some k in ap (sized s) (geometry-many (kindOf s) n (w .0) (omega (arith, w .1)) (omega (arith, w .1)))
+
+  pub sized-done : 1 ≤ T → T ≤ 80 → sizedAs s n ≡ sized s (ok (record { tracks = T; perTrack = s .sectors; order = kindOf s .order }))
+  unfolding sizedAs
+  sized-done k l =
+      let w = some k in
+      ap (sized s) (geometry-done (kindOf s) n (w .0) (omega (arith, w .1)) (omega (arith, w .1))
+      ∙ ap₂ (λ (t p : ℕ). ok (record { tracks = t; perTrack = p; order = kindOf s .order })) (sym (w .1)) (known-per-track s e))
+
 -- ---- places
+
+formed-good : (s a : ℕ) → 9 ≤ s → s ≤ 10 → a ≤ 1 → 10 * a ≤ s → GoodFormat (formed s a)
+unfolding stated ten tenMoved nine
+formed-good = kinds (λ s a. GoodFormat (formed s a)) ten-good moved-good nine-good
+
+formed-order : (s a : ℕ) → 9 ≤ s → s ≤ 10 → a ≤ 1 → 10 * a ≤ s → stated s a .order ≡ cond (eqb s 9) (nine .order) (ten .order)
+unfolding stated ten tenMoved nine
+formed-order = kinds (λ s a. stated s a .order ≡ cond (eqb s 9) (nine .order) (ten .order)) refl refl refl
+
+module _ {g : Geometry} (v : Valid g) where
+  -- what holds of every kind of disc holds of the geometry's
+  of-kind : {P : ℕ → ℕ → Type 0} → ((s a : ℕ) → 9 ≤ s → s ≤ 10 → a ≤ 1 → 10 * a ≤ s → P s a) → P (g .«per_track») (g .arrangement)
+  of-kind f = f _ _ (v .nine-on-track) (v .few-on-track) (v .arranged-as) (v .moved-ten)
+
+  pub good : GoodFormat (form g)
+  good = of-kind formed-good
+
+  -- the two tables of the code
+  pub order-of-nine : g .«per_track» ≡ 9 → geo g .order ≡ nine .order
+  order-of-nine e = rw (eq-eqb (g .«per_track») 9 e) at (of-kind formed-order)
+
+  pub order-of-ten : g .«per_track» ≢ 9 → geo g .order ≡ ten .order
+  order-of-ten e = rw (ne-eqb (g .«per_track») 9 e) at (of-kind formed-order)
+
+  -- each sector of a track at one place
+  pub each-once : Arranged (form g) (geo g)
+  each-once = good .each-once
 
 -- the places that a loop over the passing order has still to add, from place i on
 abbrev pub placesLeft : ℕ → ℕ
-placesLeft i = packed i (drop i (ten .order))
-
-ten-once : Once 11 (ten .order)
-unfolding ten
-ten-once = passing-arranged
-
--- each sector of a track at one place
-pub each-once : {g : Geometry} → Valid g → Arranged (form g) (geo g)
-unfolding arrangementOf
-each-once {g} v = by (eqb (g .arrangement) 1) refl
-  where
-    by : (b : Bool) → eqb (g .arrangement) 1 ≡ b → Once (suc (g .«per_track»)) (cond b (ten .order) (range 1 (g .«per_track»)))
-    by true e =
-        let k : 10 ≡ g .«per_track» = omega (arith, eqb-true (g .arrangement) 1 e) in
-        subst (λ (k : ℕ). Once (suc k) (ten .order)) k ten-once
-    by false e = in-order-once (g .«per_track»)
+placesLeft i = packed i (drop i (stated 10 1 .arrangement))
 
 -- one turn of that loop, as the code adds a place
 pub places-step : (i : ℕ) → i < 10
-    → (i * 2 ^ (4 * (getD (1 ∷ 4 ∷ 7 ∷ 10 ∷ 3 ∷ 6 ∷ 9 ∷ 2 ∷ 5 ∷ 8 ∷ []) i 0 - 1) + 8)) % 2 ^ 64 + placesLeft (i + 1) ≡ placesLeft i
-unfolding ten
+    → (i * 2 ^ (4 * getD (1 ∷ 4 ∷ 7 ∷ 10 ∷ 3 ∷ 6 ∷ 9 ∷ 2 ∷ 5 ∷ 8 ∷ []) i 0 + 8)) % 2 ^ 64 + placesLeft (i + 1) ≡ placesLeft i
+unfolding stated tenMoved ten
 places-step i h =
     eqb-true _ _ (all-range
-    (λ i. eqb ((i * 2 ^ (4 * (getD (1 ∷ 4 ∷ 7 ∷ 10 ∷ 3 ∷ 6 ∷ 9 ∷ 2 ∷ 5 ∷ 8 ∷ []) i 0 - 1) + 8)) % 2 ^ 64 + placesLeft (i + 1)) (placesLeft i) ≡ true)
+    (λ i. eqb ((i * 2 ^ (4 * getD (1 ∷ 4 ∷ 7 ∷ 10 ∷ 3 ∷ 6 ∷ 9 ∷ 2 ∷ 5 ∷ 8 ∷ []) i 0 + 8)) % 2 ^ 64 + placesLeft (i + 1)) (placesLeft i) ≡ true)
     0 10 i (all-true (range 0 10) refl) (omega arith) h)
 
 pub places-done : (p i : ℕ) → i ≤ 10 → 10 ≤ i → p + placesLeft i ≡ placesLeft 0 → p ≡ placesOf 1
-unfolding placesOf arrangementOf ten
+unfolding placesOf stated tenMoved ten
 places-done p i low high e = let last : i ≡ 10 = omega arith in let all : p + placesLeft 10 ≡ placesLeft 0 = rw last at e in omega arith
 
--- what four bits give
-pub offset-in : (a r : ℕ) → r < 10 → placesOf a / 2 ^ (4 * r) / 256 % 16 * 256 ≡ 256 * placeAfter a r
-unfolding placesOf placeAfter arrangementOf ten
-offset-in a r h = by (eqb a 1)
-  where
-    by : (b : Bool) → packed 0 (cond b (ten .order) (range 1 10)) / 2 ^ (4 * r) / 256 % 16 * 256 ≡ 256 * indexOf (r + 1) (cond b (ten .order) (range 1 10))
-    by true =
-        eqb-true _ _ (all-range (λ r. eqb (packed 0 (ten .order) / 2 ^ (4 * r) / 256 % 16 * 256) (256 * indexOf (r + 1) (ten .order)) ≡ true) 0 10 r
-        (all-true (range 0 10) refl) (omega arith) h)
-    by false =
-        eqb-true _ _ (all-range (λ r. eqb (packed 0 (range 1 10) / 2 ^ (4 * r) / 256 % 16 * 256) (256 * indexOf (r + 1) (range 1 10)) ≡ true) 0 10 r
-        (all-true (range 0 10) refl) (omega arith) h)
+-- what four bits give, and that it is a place on a track of ten
+abbrev OffsetIn : (arrangement sector : ℕ) → Bool
+OffsetIn a s = eqb (placesOf a / 2 ^ (4 * s) / 256 % 16 * 256) (256 * placeIn a s) && ltb (placeIn a s) 10
 
-pub after-below : (a r : ℕ) → r < 10 → placeAfter a r < 10
-unfolding placeAfter arrangementOf ten
-after-below a r h = by (eqb a 1)
+pub offset-in : (a s : ℕ) → a ≤ 1 → 1 ≤ s → s ≤ 10 → (placesOf a / 2 ^ (4 * s) / 256 % 16 * 256 ≡ 256 * placeIn a s) × (placeIn a s < 10)
+unfolding placesOf placeIn stated tenMoved ten
+offset-in a s known low high = by a known
   where
-    by : (b : Bool) → indexOf (r + 1) (cond b (ten .order) (range 1 10)) < 10
-    by true = ltb-true _ _ (all-range (λ r. ltb (indexOf (r + 1) (ten .order)) 10 ≡ true) 0 10 r (all-true (range 0 10) refl) (omega arith) h)
-    by false = omega (arith, index-range 1 10 (r + 1) (omega arith) (omega arith))
+    either : (a : ℕ) → OffsetIn a s ≡ true → (placesOf a / 2 ^ (4 * s) / 256 % 16 * 256 ≡ 256 * placeIn a s) × (placeIn a s < 10)
+    either a e = let w = and-true _ _ e in (eqb-true _ _ (w .0), ltb-true _ _ (w .1))
 
--- every sector of the passing order is one of a track's
-pub order-range : (j : ℕ) → j < ten .perTrack → (1 ≤ getD (ten .order) j 0) × (getD (ten .order) j 0 ≤ ten .perTrack)
-unfolding ten
-order-range j h =
-    let all-in = all-true {p = λ s. leb 1 s && leb s 10} (ten .order) refl in
-    let w = and-true (leb 1 (getD (ten .order) j 0)) (leb (getD (ten .order) j 0) 10) (all-getD {P = λ s. leb 1 s && leb s 10 ≡ true} j 0 all-in h) in
-    (leb-true _ _ (w .0), leb-true _ _ (w .1))
+    by : (a : ℕ) → a ≤ 1 → (placesOf a / 2 ^ (4 * s) / 256 % 16 * 256 ≡ 256 * placeIn a s) × (placeIn a s < 10)
+    by zero k = either 0 (all-range (λ s. OffsetIn 0 s ≡ true) 1 10 s (all-true (range 1 10) refl) low (omega arith))
+    by (suc zero) k = either 1 (all-range (λ s. OffsetIn 1 s ≡ true) 1 10 s (all-true (range 1 10) refl) low (omega arith))
+    by (suc (suc a)) k = absurd (omega arith)
 
 -- ---- where sectors start
+
+plain-in : (s : ℕ) → 1 ≤ s → s ≤ 10 → 1 + placeIn 0 s ≡ s
+unfolding placeIn stated ten
+plain-in s low high = index-range 1 10 s low (omega arith)
+
+-- a sector's place by its number, reckoned with ten sectors a track: of nine, which is plain, the place is the number
+abbrev Placed : (perTrack arrangement : ℕ) → Type 0
+Placed k a = (T n : ℕ) → n < k * T → placeOf (formed k a) (tracked (formed k a) T) n ≡ 10 * (n / 10) + placeIn a (n % 10 + 1)
+
+plain-placed : (k : ℕ) → stated k 0 .arrangement ≡ range 1 k → Placed k 0
+plain-placed k e T n h = plain-place (formed k 0) (tracked (formed k 0) T) e n h ∙ omega (arith, plain-in (n % 10 + 1) (omega arith) (omega arith))
+
+placed : (k a : ℕ) → 9 ≤ k → k ≤ 10 → a ≤ 1 → 10 * a ≤ k → Placed k a
+unfolding placeOf placeIn stated tenMoved ten nine
+placed = kinds Placed (plain-placed 10 refl) (λ T n h. refl) (plain-placed 9 refl)
+
+-- a sector's place on its track, likewise
+abbrev Indexed : (perTrack arrangement : ℕ) → Type 0
+Indexed k a = (s : ℕ) → 1 ≤ s → s ≤ k → indexOf s (stated k a .arrangement) ≡ placeIn a s
+
+indexed : (k a : ℕ) → 9 ≤ k → k ≤ 10 → a ≤ 1 → 10 * a ≤ k → Indexed k a
+unfolding placeIn stated tenMoved ten nine
+indexed =
+    kinds Indexed (λ s low high. refl) (λ s low high. refl)
+    (λ s low high. omega (arith, index-range 1 9 s low (omega arith), plain-in s low (omega arith)))
 
 module _ {g : Geometry} (v : Valid g) where
   starts-place : (n p q : ℕ) → n < g .sectors → placeOf (form g) (geo g) n ≡ p + q → Starts g n (256 * p + 256 * q)
@@ -197,38 +315,30 @@ module _ {g : Geometry} (v : Valid g) where
       record { at = omega (arith, e); fits = omega (arith, place-below (form g) (geo g) (each-once v) n (omega (arith, v .total)), v .total, e) }
 
   -- a sector by its number
-  pub starts : (n : ℕ) → n < g .sectors → Starts g n (2560 * (n / 10) + 256 * placeAfter (g .arrangement) (n % 10))
-  unfolding placeOf arrangementOf placeAfter
+  pub starts : (n : ℕ) → n < g .sectors → Starts g n (2560 * (n / 10) + 256 * placeIn (g .arrangement) (n % 10 + 1))
   starts n on =
-      let s = starts-place n (10 * (n / 10)) _ on (by (eqb (g .arrangement) 1) refl) in
+      let s = starts-place n (10 * (n / 10)) _ on (of-kind v placed (g .tracks) n (omega (arith, v .total))) in
       record { at = omega (arith, s .at); fits = omega (arith, s .fits) }
-    where
-      by : (b : Bool) → eqb (g .arrangement) 1 ≡ b → placeOf (form g) (geo g) n ≡ 10 * (n / 10) + placeAfter (g .arrangement) (n % 10)
-      by true e = let k : g .«per_track» ≡ 10 = omega (arith, eqb-true (g .arrangement) 1 e) in rw (e, k)
-      by false e =
-          plain-place (form g) (geo g) (rw e) n (omega (arith, v .total)) ∙ rw e (omega (arith, index-range 1 10 (n % 10 + 1) (omega arith) (omega arith)))
 
   -- a sector by its track and its number there
   pub starts-at : (t s : ℕ) → onDisc (geo g) t s ≡ true
-      → Starts g (sectorNumber (geo g) t s) (256 * (g .«per_track» * t) + 256 * placeAfter (g .arrangement) (s - 1))
-  unfolding placeOf arrangementOf placeAfter
+      → Starts g (sectorNumber (geo g) t s) (256 * (g .«per_track» * t) + 256 * placeIn (g .arrangement) s)
+  unfolding placeOf
   starts-at t s e =
       let h = on-disc-is (geo g) t s e in
       let n : ℕ = sectorNumber (geo g) t s in
       let on : n < g .sectors = omega (arith, number-below (geo g) (v .some-on-track) t s (h .0) (h .1) (h .2)) in
-      starts-place n (g .«per_track» * t) _ on (
-      ap₂ (λ (t s : ℕ). g .«per_track» * t + indexOf s (form g .arrangement))
+      let at = ap₂ (λ (t s : ℕ). g .«per_track» * t + indexOf s (form g .arrangement))
       (track-back (geo g) (v .some-on-track) t s (h .1) (h .2)) (sector-back (geo g) (v .some-on-track) t s (h .1) (h .2))
-      ∙ ap (λ (p : ℕ). g .«per_track» * t + p) (by (h .1) (h .2) (eqb (g .arrangement) 1)))
-    where
-      by : 1 ≤ s → s ≤ g .«per_track» → (b : Bool)
-          → indexOf s (cond b (ten .order) (range 1 (g .«per_track»))) ≡ indexOf (s - 1 + 1) (cond b (ten .order) (range 1 10))
-      by low high true = let same : s ≡ s - 1 + 1 = omega arith in ap (λ (s : ℕ). indexOf s (ten .order)) same
-      by low high false =
-          omega (arith, index-range 1 (g .«per_track») s low (omega arith), index-range 1 10 (s - 1 + 1) (omega arith) (omega (arith, v .few-on-track)))
+      ∙ ap (λ (p : ℕ). g .«per_track» * t + p) (of-kind v indexed s (h .1) (h .2)) in
+      starts-place n (g .«per_track» * t) _ on at
 
   pub lies : (s : Sector) → s .number .0 < g .sectors → Starts g (s .number .0) (s .start) → Lies g s
   lies s on h = record { on = on; at = h .at; fits = h .fits }
+
+-- the sector of a stop
+pub stop-sector : {g : Geometry} → Valid g → (s r : ℕ) → Stop g s r → r % 256 ≡ s
+stop-sector v s r h = omega (arith, h .at, h .on-track .1, v .few-on-track)
 
 pub lies-starts : {g : Geometry} {s : Sector} → Lies g s → Starts g (s .number .0) (s .start)
 lies-starts l = record { at = l .at; fits = l .fits }

@@ -1,16 +1,16 @@
 -- What the code's types mean in the definitions of the disc format, and the sectors of an image as contracts name them.
 -- Assumes nothing.
 use mathlib.Core.Path.{_≡_}
-use Prim.Native.Nat.{ℕ, suc, _+_, _*_, _-_, _^_, _≤_, _<_}
-use mathlib.Core.Bool.{cond}
-use lib.Dec.{eqb}
+use Prim.Native.Nat.{ℕ, suc, _+_, _*_, _/_, _%_, _^_, _≤_, _<_}
+use mathlib.Core.Bool.{Bool, _&&_, cond}
+use lib.Dec.{eqb, leb}
 use mathlib.Core.List.{List, [], _∷_}
-use lib.ListN.{length, set}
+use lib.ListN.{length, getD, set}
 use lib.Seq.{sets}
 use Rattle.format.specs.Refusals.{Try, Refusal, refused, ok}
 use Rattle.format.specs.Geometry as format
-use Rattle.format.specs.Geometry.{Format, ten, stated, geometry, Next, stop, go, off, Disc, cut, sector, startOf}
-use Rattle.format.specs.Lists.{range, indexOf}
+use Rattle.format.specs.Geometry.{Format, stated, tracked, geometry, Next, stop, go, off, Disc, cut, sector, startOf}
+use Rattle.format.specs.Lists.{indexOf}
 use Rattle.disc.specs.declared.Geometry.{Geometry}
 use Rattle.disc.specs.declared.Stated.{Stated}
 use Rattle.disc.specs.declared.Sector.{Sector}
@@ -21,43 +21,58 @@ use Rattle.disc.specs.declared.Sized.the-variants.{Of, Wrong}
 use Rattle.disc.specs.declared.Link.{Link}
 use Rattle.disc.specs.declared.Link.the-variants.{End, To, Off}
 
--- the arrangement of a track with so many sectors: 0 for plain, 1 for moved
-unfoldable pub arrangementOf : (perTrack arrangement : ℕ) → List ℕ
-arrangementOf k a = cond (eqb a 1) (ten .order) (range 1 k)
+-- the kind of disc that a caller states
+abbrev pub kindOf : Stated → Format
+kindOf s = stated (s .sectors) (s .arrangement)
+
+-- whether there are such discs
+abbrev pub known : Stated → Bool
+known s = cond (eqb (s .sectors) 10) (leb (s .arrangement) 1) (eqb (s .arrangement) 0 && eqb (s .sectors) 9)
+
+-- a kind of disc that there is, so written that its sectors a track are those stated (the law `known-per-track`)
+abbrev pub formed : (perTrack arrangement : ℕ) → Format
+formed k a = record { perTrack = k; order = stated k a .order; arrangement = stated k a .arrangement }
 
 -- the kind of disc that a geometry of the code is of
 abbrev pub form : Geometry → Format
-form g = record { perTrack = g .«per_track»; order = ten .order; arrangement = arrangementOf (g .«per_track») (g .arrangement) }
+form g = formed (g .«per_track») (g .arrangement)
 
 -- the format's geometry of a geometry of the code
 abbrev pub geo : Geometry → format.Geometry
-geo g = record { tracks = g .tracks; perTrack = g .«per_track»; order = ten .order }
+geo g = tracked (form g) (g .tracks)
 
--- the places of sectors 1 to 10 on a track where they stand in this order, four bits each from the ninth bit on; the first has place i
+-- the places of sectors 1 to 10 on a track where they stand in this order, four bits each from the thirteenth bit on; the first has place i
 abbrev pub packed : (place : ℕ) → List ℕ → ℕ
 packed i [] = 0
-packed i (s ∷ ss) = i * 2 ^ (4 * (s - 1) + 8) + packed (suc i) ss
+packed i (s ∷ ss) = i * 2 ^ (4 * s + 8) + packed (suc i) ss
 
--- the places in an arrangement, 0 for plain or 1 for moved
+-- the places in an arrangement, 0 for plain or 1 for moved; on a track of nine, which is plain, a sector has the place that it has on one of ten
 unfoldable pub placesOf : (arrangement : ℕ) → ℕ
-placesOf a = packed 0 (arrangementOf 10 a)
+placesOf a = packed 0 (stated 10 a .arrangement)
 
--- the place of the sector with r others before it on its track
-unfoldable pub placeAfter : (arrangement r : ℕ) → ℕ
-placeAfter a r = indexOf (r + 1) (arrangementOf 10 a)
+-- the place of a sector on its track
+unfoldable pub placeIn : (arrangement sector : ℕ) → ℕ
+placeIn a s = indexOf s (stated 10 a .arrangement)
+
+-- the tracks in a length, or 0 where it is not one of whole tracks
+abbrev pub wholeTracks : (perTrack length : ℕ) → ℕ
+wholeTracks k n = cond (eqb (n % (256 * k)) 0) (n / (256 * k)) 0
 
 -- the code's answer for the geometry of a length
-abbrev pub sized : (arrangement : ℕ) → Try Refusal format.Geometry → Sized
-sized a (refused e) = Wrong
-sized a (ok G) = Of (record { tracks = G .tracks; «per_track» = G .perTrack; sectors = format.sectors G; arrangement = a; places = placesOf a })
-
--- the kind of disc that a caller states
-abbrev pub kindOf : Stated → Format
-kindOf s = stated (s .arrangement)
+abbrev pub sized : Stated → Try Refusal format.Geometry → Sized
+sized s (refused e) = Wrong
+sized s (ok G) =
+    Of (record {
+      tracks = G .tracks;
+      «per_track» = G .perTrack;
+      sectors = format.sectors G;
+      arrangement = s .arrangement;
+      places = placesOf (s .arrangement);
+    })
 
 -- the code's answer for what a caller states
-unfoldable pub sizedAs : (arrangement length : ℕ) → Sized
-sizedAs a n = sized a (geometry (stated a) n)
+unfoldable pub sizedAs : Stated → (length : ℕ) → Sized
+sizedAs s n = sized s (geometry (kindOf s) n)
 
 -- what a link of the code leads to
 abbrev pub meaning : Link → Next
@@ -73,10 +88,11 @@ sectorsOf g image = cut (form g) (geo g) image
 abbrev pub storedAt : Disc → ℕ → ℕ → List ℕ → Disc
 storedAt d n k xs = set d n (sets (sector d n) k xs)
 
--- What the code relies on: at most ten sectors a track, and the moved arrangement only with ten (`moved-ten`). Every field is a fact about numbers, so
+-- What the code relies on: nine or ten sectors a track, and the moved arrangement only with ten (`moved-ten`). Every field is a fact about numbers, so
 -- that `omega` proves the whole; some follow from others and are there for `omega` to find.
 pub record Valid (g : Geometry) : Type 0 where
   pub some-on-track : 0 < geo g .perTrack
+  pub nine-on-track : 9 ≤ geo g .perTrack
   pub few-on-track : geo g .perTrack ≤ 10
   pub arranged-as : g .arrangement ≤ 1
   pub moved-ten : 10 * g .arrangement ≤ geo g .perTrack
@@ -120,3 +136,13 @@ abbrev pub Reaches : Geometry → Step → Type 0
 Reaches g code.the-variants.End = Unit {0}
 Reaches g (code.the-variants.To s) = Lies g s
 Reaches g code.the-variants.Off = Unit {0}
+
+-- sector s of a track, and its place there
+pub record Stop (g : Geometry) (s r : ℕ) : Type 0 where
+  pub on-track : (1 ≤ s) × (s ≤ geo g .perTrack)
+  pub at : r ≡ 256 * placeIn (g .arrangement) s + s
+
+-- the sectors of a track in the order in which the chain of a blank disc passes them
+pub record Stops (g : Geometry) (xs : List ℕ) : Type 0 where
+  pub long : length xs ≡ 10
+  pub at : (i : ℕ) → i < geo g .perTrack → Stop g (getD (geo g .order) i 0) (getD xs i 0)

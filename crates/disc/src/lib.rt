@@ -3,25 +3,26 @@
 // sector) and number know how many sectors a track has, and only `start_of` and `sector_at` where an image has a sector; everything else
 // is bounded by the number of all sectors.
 ghost use mathlib.Core.Path.{_≡_};
-ghost use Prim.Native.Nat.{_+_, _*_, _≤_, _<_};
+ghost use Prim.Native.Nat.{_+_, _*_, _%_, _≤_, _<_};
 ghost use mathlib.Core.Bool.{true};
 ghost use lib.ListN.{length, getD, set};
 ghost use Rattle.format.specs.Lists.{byte, wordAt};
-ghost use Rattle.format.specs.Geometry.{ten, onDisc, sectorNumber, pointed, sector, trackOf, sectorOf};
+ghost use Rattle.format.specs.Geometry.{onDisc, sectorNumber, pointed, sector, trackOf, sectorOf};
 ghost use Rattle.format.specs.Layout.{linkPlace, versionPlace, linkOf, pairAt, trackByte, sectorByte, linkBytes};
 ghost use Rattle.format.specs.Effects.{version};
-ghost use Rattle.disc.specs.Meaning.{geo, placesOf, placeAfter, sizedAs, meaning, sectorsOf, storedAt, Valid, Inside, Image, Starts, Lies, led, Reaches};
+ghost use Rattle.disc.specs.Meaning.{known, wholeTracks, geo, placesOf, placeIn, sizedAs, meaning, sectorsOf, storedAt, Valid, Inside, Image, Starts, Lies, led, Reaches, Stop, Stops};
 
 // A sector's number on the disc: not a byte position, and not a pair of track and sector.
 pub struct SectorNo(pub usize);
 
-// What a caller states of an image: its arrangement, 0 for plain or 1 for moved.
+// What a caller states of an image: the sectors of a track, 9 or 10, and the arrangement, 0 for plain or 1 for moved.
 pub struct Stated {
+    pub sectors: u32,
     pub arrangement: u32,
 }
 
 // One side of a disc: its tracks, the sectors of a track, the sectors in all, and the arrangement of its image: the number stated, and
-// the places of a track's sectors 1 to 10, four bits each from the ninth bit on. So a sector's start takes no branch and no search.
+// the places of a track's sectors 1 to 10, four bits each from the thirteenth bit on. So a sector's start takes no branch and no search.
 pub struct Geometry {
     pub tracks: usize,
     pub per_track: usize,
@@ -30,20 +31,24 @@ pub struct Geometry {
     pub places: u64,
 }
 
-// The geometry of an image, or that no disc is as long or arranged so.
+// The geometry of an image, or that there is no such disc.
 pub enum Sized {
     Of(Geometry),
     Wrong,
 }
 
-// Sectors of a track.
-const PER_TRACK: usize = 10;
+// Sectors of a track, and of a track of the early discs.
+const TEN: usize = 10;
+
+const NINE: usize = 9;
 
 // The sectors of a track in the order in which the chain of a blank disc passes them.
-pub const ORDER: [u8; 10] = [1, 4, 7, 10, 3, 6, 9, 2, 5, 8];
+const ORDER: [u8; 10] = [1, 4, 7, 10, 3, 6, 9, 2, 5, 8];
+
+const ORDER_OF_NINE: [u8; 9] = [1, 4, 7, 2, 5, 8, 3, 6, 9];
 
 // The places of sectors in the order of their numbers.
-const PLAIN_PLACES: u64 = 0x987654321000;
+const PLAIN_PLACES: u64 = 0x9876543210000;
 
 // The places of sectors in passing order.
 fn moved_places() -> u64
@@ -52,13 +57,14 @@ fn moved_places() -> u64
     let mut places: u64 = 0;
     let mut i: usize = 0;
     while i < 10 {
-        places += (i as u64) << (4 * (ORDER[i] as u64 - 1) + 8);
+        places += (i as u64) << (4 * ORDER[i] as u64 + 8);
         i += 1;
     }
     places
 }
 
 fn places_of(arrangement: u32) -> u64
+    requires { ⌜ arrangement ≤ 1 ⌝ }
     ensures { λ r. ⌜ r ≡ placesOf arrangement ⌝ }
 {
     if arrangement == 1 {
@@ -67,27 +73,56 @@ fn places_of(arrangement: u32) -> u64
     PLAIN_PLACES
 }
 
-pub fn geometry_of(stated: Stated, length: usize) -> Sized
-    ensures { λ r. ⌜ r ≡ sizedAs (stated .arrangement) length ⌝ }
+// There are discs of ten sectors a track, plain and moved, and of nine, plain alone.
+fn is_known(stated: Stated) -> bool
+    ensures { λ r. ⌜ r ≡ known stated ⌝ }
 {
-    let arrangement = stated.arrangement;
-    if 1 < arrangement {
+    if stated.sectors == 10 {
+        return stated.arrangement <= 1;
+    }
+    if stated.arrangement != 0 {
+        return false;
+    }
+    stated.sectors == 9
+}
+
+// The tracks in a length, or 0 where it is not one of whole tracks. By constants, since dividing by the number stated would cost as much
+// as the rest.
+fn tracks_in(length: usize, sectors: usize) -> usize
+    requires { ⌜ (9 ≤ sectors) × (sectors ≤ 10) ⌝ }
+    ensures { λ r. ⌜ r ≡ wholeTracks sectors length ⌝ }
+{
+    if sectors == NINE {
+        if length % (256 * NINE) != 0 {
+            return 0;
+        }
+        return length / (256 * NINE);
+    }
+    if length % (256 * TEN) != 0 {
+        return 0;
+    }
+    length / (256 * TEN)
+}
+
+pub fn geometry_of(stated: Stated, length: usize) -> Sized
+    ensures { λ r. ⌜ r ≡ sizedAs stated length ⌝ }
+{
+    if !is_known(stated) {
         return Sized::Wrong;
     }
-    let tracks = length / (256 * PER_TRACK);
-    if length % (256 * PER_TRACK) != 0 {
-        return Sized::Wrong;
-    }
+    let per_track = stated.sectors as usize;
+    let tracks = tracks_in(length, per_track);
     if tracks < 1 {
         return Sized::Wrong;
     }
     if 80 < tracks {
         return Sized::Wrong;
     }
+    let arrangement = stated.arrangement;
     Sized::Of(Geometry {
         tracks,
-        per_track: PER_TRACK,
-        sectors: PER_TRACK * tracks,
+        per_track,
+        sectors: per_track * tracks,
         arrangement,
         places: places_of(arrangement),
     })
@@ -106,22 +141,23 @@ pub fn number_of(g: Geometry, track: usize, sector: usize) -> SectorNo
     SectorNo(g.per_track * track + sector - 1)
 }
 
-// Where the sector with r others before it starts on its track. Of the bits shifted down, those above the lowest eight are its place:
-// they stand where 256 times the place has them.
-fn offset_after(g: Geometry, r: usize) -> usize
-    requires { ⌜ Valid g × (r < 10) ⌝ }
-    ensures { λ p. ⌜ (p ≡ 256 * placeAfter (g .arrangement) r) × (p < 2560) ⌝ }
+// Where a sector starts on its track. Of the bits shifted down, those above the lowest eight are its place: they stand where 256 times the
+// place has them.
+fn offset_of(g: Geometry, sector: usize) -> usize
+    requires { ⌜ Valid g × (1 ≤ sector) × (sector ≤ 10) ⌝ }
+    ensures { λ p. ⌜ (p ≡ 256 * placeIn (g .arrangement) sector) × (p < 2560) ⌝ }
 {
-    ((g.places >> (4 * r as u64)) / 256 % 16 * 256) as usize
+    ((g.places >> (4 * sector as u64)) / 256 % 16 * 256) as usize
 }
 
-// The byte position of a sector in its image. By a constant, since dividing by the geometry's number would cost as much as the rest.
+// The byte position of a sector in its image. By a constant, since dividing by the geometry's number would cost as much as the rest; it
+// serves nine sectors a track as well, whose places are their numbers.
 pub fn start_of(g: Geometry, n: SectorNo) -> usize
     requires { ⌜ Valid g × (n .0 < g .sectors) ⌝ }
     ensures { λ r. ⌜ Starts g (n .0) r ⌝ }
 {
     let number = n.0;
-    256 * PER_TRACK * (number / PER_TRACK) + offset_after(g, number % PER_TRACK)
+    256 * TEN * (number / TEN) + offset_of(g, number % TEN + 1)
 }
 
 // A sector, and where it starts in the image: for several bytes of one sector, and for the way along a chain.
@@ -140,14 +176,14 @@ pub fn sector_of(g: Geometry, n: SectorNo) -> Sector
     }
 }
 
-// Sector s of track t.
+// Sector s of track t. Number and start share one product, for which a walk along a chain waits at each step.
 pub fn sector_at(g: Geometry, track: usize, sector: usize) -> Sector
     requires { ⌜ Valid g × (onDisc (geo g) track sector ≡ true) ⌝ }
     ensures { λ r. ⌜ (r .number .0 ≡ sectorNumber (geo g) track sector) × Lies g r ⌝ }
 {
     let number = number_of(g, track, sector);
     let per_track = g.per_track;
-    let offset = offset_after(g, sector - 1);
+    let offset = offset_of(g, sector);
     Sector {
         number,
         start: 256 * (per_track * track) + offset,
@@ -358,9 +394,57 @@ pub fn put_version(image: &mut [u8], g: Geometry)
     put(image, g, SectorNo(0), 0x40, b"TANDOS 65 IMAGE 1");
 }
 
-pub fn order_at(k: usize) -> u8
-    requires { ⌜ k < 10 ⌝ }
-    ensures { λ r. ⌜ r ≡ getD (ten .order) k 0 ⌝ }
+// The sector at place i of the order in which the chain of a blank disc passes a track.
+fn order_at(g: Geometry, i: usize) -> u8
+    requires { ⌜ Valid g × (i < geo g .perTrack) ⌝ }
+    ensures { λ r. ⌜ r ≡ getD (geo g .order) i 0 ⌝ }
 {
-    ORDER[k]
+    if g.per_track == NINE {
+        return ORDER_OF_NINE[i];
+    }
+    ORDER[i]
+}
+
+// A stop of a blank disc's chain: a sector of a track by its number there, plus 256 times its place. It is one number so that the loop along
+// the chain takes one load for each link.
+fn stop_at(g: Geometry, i: usize) -> u16
+    requires { ⌜ Valid g × (i < geo g .perTrack) ⌝ }
+    ensures { λ r. ⌜ Stop g (getD (geo g .order) i 0) r ⌝ }
+{
+    let sector = order_at(g, i);
+    offset_of(g, sector as usize) as u16 + sector as u16
+}
+
+// The stops of a track, in the order in which the chain passes them; of nine the last is none.
+pub fn stops(g: Geometry) -> [u16; 10]
+    requires { ⌜ Valid g ⌝ }
+    ensures { λ r. ⌜ Stops g r ⌝ }
+{
+    let mut stops = [0; 10];
+    let mut i: usize = 0;
+    while i < g.per_track {
+        stops[i] = stop_at(g, i);
+        i += 1;
+    }
+    stops
+}
+
+// Its sector's number.
+pub fn sector_of_stop(stop: u16) -> u8
+    ensures { λ r. ⌜ r ≡ stop % 256 ⌝ }
+{
+    (stop % 256) as u8
+}
+
+// Its sector on a track.
+pub fn stop_on(g: Geometry, track: usize, stop: u16) -> Sector
+    requires { ⌜ Valid g × (track < g .tracks) × Stop g (stop % 256) stop ⌝ }
+    ensures { λ r. ⌜ (r .number .0 ≡ sectorNumber (geo g) track (stop % 256)) × Lies g r ⌝ }
+{
+    let number = number_of(g, track, (stop % 256) as usize);
+    let per_track = g.per_track;
+    Sector {
+        number,
+        start: 256 * (per_track * track) + (stop / 256 * 256) as usize,
+    }
 }

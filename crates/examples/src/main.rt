@@ -26,9 +26,9 @@ fn word(low: u8, high: u8) -> u64 {
 fn sectors_taken(sheet: &[u8]) {
     let mut image = [0u8; TRACK];
     let mut records = [0u8; 64];
-    tandos::tandos_blank(&mut image, 0, b"LENGTHS");
-    tandos::tandos_save(&mut image, 0, b"SHEET", 0, 0x2000, 0x2000, sheet);
-    tandos::tandos_list(&image, 0, &mut records);
+    tandos::tandos_blank(&mut image, 10, 0, b"LENGTHS");
+    tandos::tandos_save(&mut image, 10, 0, b"SHEET", 0, 0x2000, 0x2000, sheet);
+    tandos::tandos_list(&image, 10, 0, &mut records);
     number(sheet.len() as u64);
     text(b" bytes take ");
     number(word(records[12], records[13]));
@@ -52,8 +52,8 @@ fn save_letter(image: &mut [u8], letter: u8) {
     text(b"save ");
     text(&name);
     text(b": ");
-    number(tandos::tandos_save(image, 0, &name, 0, 0x2000, 0x2000, b"12 trousers") as u64);
-    tandos::tandos_list(image, 0, &mut records);
+    number(tandos::tandos_save(image, 10, 0, &name, 0, 0x2000, 0x2000, b"12 trousers") as u64);
+    tandos::tandos_list(image, 10, 0, &mut records);
     text(b", free ");
     number(word(records[10], records[11]));
     text(b"\n");
@@ -68,10 +68,10 @@ fn save_letters(image: &mut [u8]) {
 // "The 15th file needs no directory sector, the 16th one more; after one delete the next save needs none."
 fn directory_growth() {
     let mut image = [0u8; 3 * TRACK];
-    tandos::tandos_blank(&mut image, 0, b"GROWTH");
+    tandos::tandos_blank(&mut image, 10, 0, b"GROWTH");
     save_letters(&mut image);
     text(b"delete C: ");
-    number(tandos::tandos_delete(&mut image, 0, b"C") as u64);
+    number(tandos::tandos_delete(&mut image, 10, 0, b"C") as u64);
     text(b"\n");
     save_letter(&mut image, b'Q');
 }
@@ -79,12 +79,21 @@ fn directory_growth() {
 // "Rename of an unprotected file to its own name gives 5; of a protected one, 6."
 fn rename_to_itself() {
     let mut image = [0u8; TRACK];
-    tandos::tandos_blank(&mut image, 0, b"NAMES");
-    tandos::tandos_save(&mut image, 0, b"THU.PCS", 0, 0x2000, 0x2000, b"7 jackets");
+    tandos::tandos_blank(&mut image, 10, 0, b"NAMES");
+    tandos::tandos_save(
+        &mut image,
+        10,
+        0,
+        b"THU.PCS",
+        0,
+        0x2000,
+        0x2000,
+        b"7 jackets",
+    );
     text(b"rename to its own name: ");
-    number(tandos::tandos_rename(&mut image, 0, b"THU.PCS", b"THU.PCS") as u64);
-    tandos::tandos_protect(&mut image, 0, b"THU.PCS", 1);
+    number(tandos::tandos_rename(&mut image, 10, 0, b"THU.PCS", b"THU.PCS") as u64);
+    tandos::tandos_protect(&mut image, 10, 0, b"THU.PCS", 1);
     text(b"\nthe same, protected: ");
-    number(tandos::tandos_rename(&mut image, 0, b"THU.PCS", b"THU.PCS") as u64);
+    number(tandos::tandos_rename(&mut image, 10, 0, b"THU.PCS", b"THU.PCS") as u64);
     text(b"\n");
 }

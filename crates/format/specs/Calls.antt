@@ -79,7 +79,7 @@ module _ (G : Geometry) (d : Disc) where
     s ← find G d nine orRefuse ABSENT
     ok (slotWrite d s attributePlace (protectedAs (not (eqb on 0)) (attributeOf s) ∷ []) ∷ [])
 
--- ---- the calls on an image: refusal 1, then the refusals on its sectors. F is the kind of disc that the caller states.
+-- ---- the calls on an image: refusal 1, then the refusals on its sectors. F is what the caller states.
 
 module _ (F : Format) (image : List ℕ) where
   -- a call that writes nothing into the image

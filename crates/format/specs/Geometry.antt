@@ -1,4 +1,4 @@
--- Document 01, 'The disc this work handles': tracks, sectors, sector numbers, and where sectors lie in an image.
+-- Document 01, 'The disc this work handles': tracks, sectors, sector numbers, and where sectors lie in an image; with requests k and m of document 02.
 -- The only file that knows how many sectors a track has, the passing order, and byte positions in an image.
 -- Assumes nothing.
 use Prim.Native.Nat.{ℕ, zero, suc, _+_, _*_, _/_, _%_, _-_}
@@ -11,36 +11,44 @@ use Rattle.format.specs.Refusals.{Try, Refusal, SIZE, ok, refuse_if_, _>
 
 -- ---- tracks and sectors
 
--- What a kind of disc has on each track: how many sectors, the order in which a blank disc's chain passes them, and the arrangement: the
--- sectors in the order in which an image has them.
+-- What a kind of disc has on each track, and what its images have: how many sectors, the order in which a blank disc's chain passes them, and the
+-- arrangement: the sectors of a track in the order in which an image has them.
 pub record Format : Type 0 where
   pub perTrack : ℕ
   pub order : List ℕ
   pub arrangement : List ℕ
 
--- the same kind of disc in another arrangement
+-- the same discs, their images in another arrangement
 abbrev pub arranged : List ℕ → Format → Format
 arranged A F = record { perTrack = F .perTrack; order = F .order; arrangement = A }
 
--- so many sectors a track, and this passing order; an image has the sectors of a track in the order of their numbers
-abbrev pub inOrder : ℕ → List ℕ → Format
-inOrder k o = record { perTrack = k; order = o; arrangement = range 1 k }
+-- so many sectors a track, and this passing order; plain: an image has the sectors of a track in the order of their numbers
+abbrev pub plainly : (perTrack : ℕ) (order : List ℕ) → Format
+plainly k o = record { perTrack = k; order = o; arrangement = range 1 k }
 
 -- "tracks .. of 10 sectors, numbered 1 to 10"; "On each track the chain passes 1, 4, 7, 10, 3, 6, 9, 2, 5, 8".
 unfoldable pub ten : Format
-ten = inOrder 10 (1 ∷ 4 ∷ 7 ∷ 10 ∷ 3 ∷ 6 ∷ 9 ∷ 2 ∷ 5 ∷ 8 ∷ [])
+ten = plainly 10 (1 ∷ 4 ∷ 7 ∷ 10 ∷ 3 ∷ 6 ∷ 9 ∷ 2 ∷ 5 ∷ 8 ∷ [])
 
 -- "The new card stores the sectors of each track in passing order".
 unfoldable pub tenMoved : Format
 tenMoved = arranged (ten .order) ten
 
--- a kind of disc that there isn't: with no sector on a track, no length is right (the law `no-disc`)
-unfoldable pub unknown : Format
-unknown = inOrder 0 []
+-- "the first TANDOS, with 9 sectors a track"; "Blank order for 9 is 1, 4, 7, 2, 5, 8, 3, 6, 9."
+unfoldable pub nine : Format
+nine = plainly 9 (1 ∷ 4 ∷ 7 ∷ 2 ∷ 5 ∷ 8 ∷ 3 ∷ 6 ∷ 9 ∷ [])
 
--- What the caller states: "0 for plain or 1 for moved; another number gives 1."
-unfoldable pub stated : (arrangement : ℕ) → Format
-stated a = cond (eqb a 0) ten (cond (eqb a 1) tenMoved unknown)
+-- a kind of disc that there isn't: with no sector on a track a length has no tracks (n / 0 is 0), so that none is right (the law `no-disc`)
+unfoldable pub unknown : Format
+unknown = plainly 0 []
+
+-- What the caller states: "9 or 10" sectors a track, and "0 for plain or 1 for moved; another number gives 1"; "Arrangement 1 of k) .. stay[s] with ten".
+unfoldable pub stated : (perTrack arrangement : ℕ) → Format
+stated k a =
+    cond (eqb k 10 && eqb a 0) ten
+    (cond (eqb k 10 && eqb a 1) tenMoved
+    (cond (eqb k 9 && eqb a 0) nine
+    unknown))
 
 -- One side of a disc: T, the number of tracks, and what a format has on each. The arrangement is no part of it: what is on a disc never hangs on where
 -- an image has its sectors.
@@ -53,22 +61,22 @@ pub record Geometry : Type 0 where
 abbrev pub tracked : Format → ℕ → Geometry
 tracked F T = record { tracks = T; perTrack = F .perTrack; order = F .order }
 
--- the number of all sectors
+-- the number of all sectors: document 01's 10T, with the stated number for 10
 abbrev pub sectors : Geometry → ℕ
 sectors G = G .perTrack * G .tracks
 
--- Refusal 1: "image length isn't 2,560 times 1 to 80"; "another number gives 1": of an unknown kind no length is right.
+-- Refusal 1: "the length isn't 256 times that times 1 to 80 tracks, or another number was stated" (`unknown`).
 unfoldable pub geometry : Format → ℕ → Try Refusal Geometry
 geometry F n = do
   let track = 256 * F .perTrack
   refuse SIZE if not (eqb (n % track) 0 && leb 1 (n / track) && leb (n / track) 80)
   ok (tracked F (n / track))
 
--- "Track t, sector s is sector number 10t + s - 1".
+-- "Track t, sector s is sector number 10t + s - 1", with "the stated number .. for 10 sectors a track".
 abbrev pub sectorNumber : Geometry → ℕ → ℕ → ℕ
 sectorNumber G t s = G .perTrack * t + s - 1
 
--- "On the disc" means track below T, sector 1 to 10.
+-- "On the disc" means track below T, sector 1 to 10: to the stated number.
 abbrev pub onDisc : Geometry → ℕ → ℕ → Bool
 onDisc G t s = ltb t (G .tracks) && leb 1 s && leb s (G .perTrack)
 

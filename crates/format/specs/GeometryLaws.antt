@@ -17,7 +17,7 @@ use Rattle.format.specs.Lists.{joined, times, range, indexOf}
 use Rattle.format.specs.ListLaws.{and-true, All, done, _also_, all-getD, all-set, times-here, times-past}
 use Rattle.format.specs.Refusals.{refused, ok, SIZE, refuse_if_, _>>_}
 use Rattle.format.specs.RefusalLaws.{if-ok, ok-is}
-use Rattle.format.specs.Geometry.{Format, arranged, ten, tenMoved, unknown, stated, Geometry, tracked, geometry, sectors, sectorNumber, startOf, onDisc, trackOf, sectorOf, placeOf, sectorAt, Next, stop, go, off, pointed, Disc, chunks, reordered, cut, flat, sector, Write, written}
+use Rattle.format.specs.Geometry.{Format, arranged, unknown, Geometry, tracked, geometry, sectors, sectorNumber, startOf, onDisc, trackOf, sectorOf, placeOf, sectorAt, Next, stop, go, off, pointed, Disc, chunks, reordered, cut, flat, sector, Write, written}
 use Rattle.format.specs.Arrangements.{index-below, at-index, element-times, index-at, index-range, Arranged, arrangement-long, arranged-once, reordered-long, reordered-at, reordered-each, reordered-back, reordered-set}
 
 -- ---- the geometry of a length
@@ -67,24 +67,6 @@ same-length F A n = refl
 pub no-disc : (n : ℕ) → geometry unknown n ≡ refused SIZE
 unfolding unknown
 no-disc n = elim (ℕ-discrete (n % 0) 0) [ yes e ↦ geometry-none unknown n e (omega (arith, div-zero n)) | no e ↦ geometry-rest unknown n e ]
-
--- "another number gives 1"
-pub stated-unknown : (a : ℕ) → 1 < a → stated a ≡ unknown
-unfolding stated
-stated-unknown a h = simp (ne-eqb a 0 (λ e. omega arith), ne-eqb a 1 (λ e. omega arith))
-
-pub other-number : (a : ℕ) → 1 < a → (n : ℕ) → geometry (stated a) n ≡ refused SIZE
-other-number a h n = rw (stated-unknown a h) (no-disc n)
-
--- what holds of each kind of disc holds of what a caller states
-pub stated-cases : (P : Format → Type 0) → P ten → P tenMoved → P unknown → (a : ℕ) → P (stated a)
-unfolding stated
-stated-cases P plain moved none a = by (eqb a 0) (eqb a 1)
-  where
-    by : (x y : Bool) → P (cond x ten (cond y tenMoved unknown))
-    by true y = plain
-    by false true = moved
-    by false false = none
 
 -- ---- on the disc, and what a track and a sector byte lead to
 

@@ -5,6 +5,7 @@ pub mod RefusalLaws
 pub mod Geometry
 pub mod Arrangements
 pub mod GeometryLaws
+pub mod Formats
 pub mod Names
 pub mod NameLaws
 pub mod Layout

@@ -224,7 +224,13 @@ once-length N xs o =
     sym (tally-all (suc N) xs (at-all xs (λ n h. elim (ℕ-discrete (n - N) 0) [ yes e ↦ omega arith | no e ↦ absurd (omega (arith, o .outside n (omega arith))) ])))
     ∙ tally-once (suc N) N xs o (omega arith)
 
--- the same for any N
+pub once-inside : {N : ℕ} {xs : List ℕ} → Once (suc N) xs → All (λ n. (1 ≤ n) × (n ≤ N)) xs
+once-inside {N} {xs} o = at-all xs (λ n h. (
+  elim (ℕ-discrete n 0) [ yes e ↦ absurd (omega (arith, ap (λ (m : ℕ). times m xs) e, o .zeroth)) | no e ↦ omega arith ],
+  elim (ℕ-discrete (n - N) 0) [ yes e ↦ omega arith | no e ↦ absurd (omega (arith, o .outside n (omega arith))) ],
+))
+
+-- the length for any N
 pub once-long : (N : ℕ) (xs : List ℕ) → Once N xs → length xs ≡ N - 1
 once-long zero [] o = refl
 once-long zero (x ∷ xs) o = absurd (omega (arith, o .outside x (omega arith), times-here x x xs refl))

@@ -1,7 +1,8 @@
 -- Document 02, request k: "Each call on one of our images .. must give on a moved image the same answer as on the plain one, and the moved
--- form of its result. Show this once for any arrangement of the ten places, and then for these two."
+-- form of its result. Show this once for any arrangement of the ten places, and then for these two."; and what gives 1, with request m.
 -- Assumes nothing.
 use mathlib.Core.Path.{_≡_}
+use mathlib.Core.Logic.{_≢_}
 use Prim.Native.Nat.{ℕ, suc, _<_}
 use mathlib.Core.List.{List}
 use lib.ListN.{length}
@@ -61,7 +62,7 @@ MovesBack F =
     (A : List ℕ) → Arrangement F A → (image : List ℕ)
     → (movedForm (arranged A F) (F .arrangement) (movedForm F A image) ≡ image) × (movedForm F A (movedForm (arranged A F) (F .arrangement) image) ≡ image)
 
--- "another number gives 1": every call is refused with 1 and leaves what was lent
+-- every call is refused with 1 and leaves what was lent
 pub record GivesOne (F : Format) : Type 0 where
   pub check : (image : List ℕ) → afterCheck F image ≡ record { number = 1; rule = 0 }
   pub list : (image buffer : List ℕ) → afterList F image buffer ≡ listAnswerBy buffer (refused SIZE)
@@ -73,5 +74,8 @@ pub record GivesOne (F : Format) : Type 0 where
   pub blank : (image name : List ℕ) → afterBlank F image name ≡ answered 1 image
   pub view : (image : List ℕ) (track sector : ℕ) → calls.view F image track sector ≡ refused SIZE
 
-unfoldable pub OtherNumbers : Type 0
-OtherNumbers = (a : ℕ) → 1 < a → GivesOne (stated a)
+-- Of the arrangement "another number gives 1"; of the sectors a track "or another number was stated"; "Arrangement 1 .. answer[s] 1 for nine".
+pub record OtherNumbers : Type 0 where
+  pub arrangement : (k a : ℕ) → 1 < a → GivesOne (stated k a)
+  pub per-track : (k a : ℕ) → k ≢ 9 → k ≢ 10 → GivesOne (stated k a)
+  pub nine-moved : GivesOne (stated 9 1)

@@ -10,17 +10,17 @@ use lib.ListN.{length}
 use Rattle.format.specs.Refusals.{Try, Refusal, NAME, NO-SECTOR, refused, ok, _>>=_, _>>_, refuse_if_, _orRefuse_, number, valueOr}
 use Rattle.format.specs.Lists.{range, Once}
 use Rattle.format.specs.ListLaws.{All}
-use Rattle.format.specs.Geometry.{Format, ten, tenMoved, stated, arranged, Geometry, tracked, geometry, sectors, sectorNumber, startOf, placeOf, sectorAt, onDisc, Disc, cut, flat, sector, bodyPart, movedPart, bytesOf, Write, written}
-use Rattle.format.specs.Arrangements.{in-order-once, permutes-once, Arranged}
-use Rattle.format.specs.GeometryLaws.{same-length, no-disc, other-number, stated-cases, place-back, number-below, on-disc-is, ImageOf, geometry-ok, Full, cut-full, cut-flat, flat-cut, flat-long}
+use Rattle.format.specs.Geometry.{Format, ten, tenMoved, unknown, stated, arranged, Geometry, tracked, geometry, sectors, sectorNumber, startOf, placeOf, sectorAt, onDisc, Disc, cut, flat, sector, bodyPart, movedPart, bytesOf, Write, written}
+use Rattle.format.specs.Arrangements.{in-order-once, Arranged}
+use Rattle.format.specs.GeometryLaws.{same-length, no-disc, place-back, number-below, on-disc-is, ImageOf, geometry-ok, Full, cut-full, cut-flat, flat-cut, flat-long}
+use Rattle.format.specs.Formats.{stated-cases, other-arrangement, other-sectors, nine-moved}
 use Rattle.format.specs.Calls.{listOn, readOn, saveOn, deleteOn, renameOn, protectOn, partBy, listAnswerBy, readAnswerBy, answered, answerBy, asked, changed, blank, view, checkAnswerBy, afterCheck, afterList, afterRead, afterSave, afterDelete, afterRename, afterProtect, afterBlank, viewNumber, viewPart}
-use Rattle.format.specs.RefusalLaws.{refused-ok}
 use Rattle.format.specs.Names.{discName}
 use Rattle.format.specs.Check.{broken}
 use Rattle.format.specs.Effects.{body, blankDisc}
 use Rattle.format.specs.CallLaws.{view-body}
 use Rattle.format.specs.WholeWrites.{Whole, written-full, save-whole, delete-whole, rename-whole, protect-whole, blank-whole}
-use Rattle.format.specs.Moving.{Arrangement, movedForm, movedView, movedAnswer, Moves, MovesAlike, MovesBack, OtherNumbers}
+use Rattle.format.specs.Moving.{Arrangement, movedForm, movedView, movedAnswer, Moves, MovesAlike, MovesBack, GivesOne, OtherNumbers}
 
 module _ (F : Format) (own : Arrangement F (F .arrangement)) (A : List ℕ) (other : Arrangement F A) where
   module _ (image : List ℕ) (G : Geometry) (g : geometry F (length image) ≡ ok G) where
@@ -213,73 +213,66 @@ pub moves-back : (F : Format) → Arrangement F (F .arrangement) → MovesBack F
 unfolding MovesBack
 moves-back F own A other image = (there-and-back F own A other image, there-and-back (arranged A F) other (F .arrangement) own image)
 
--- ---- "of the ten places, and then for these two"
+-- ---- whatever a caller states, and then "these two"
 
-pub ten-arranged : Arrangement ten (ten .arrangement)
-unfolding ten
-ten-arranged = in-order-once 10
+none-arranged : Arrangement unknown (unknown .arrangement)
+unfolding unknown
+none-arranged = in-order-once 0
 
-pub passing-arranged : Arrangement ten (ten .order)
-unfolding ten
-passing-arranged = permutes-once 10 (1 ∷ 4 ∷ 7 ∷ 10 ∷ 3 ∷ 6 ∷ 9 ∷ 2 ∷ 5 ∷ 8 ∷ []) refl
+own-arranged : (k a : ℕ) → Arrangement (stated k a) (stated k a .arrangement)
+own-arranged = stated-cases (λ F. Arrangement F (F .arrangement)) (λ F f. f .each-once) none-arranged
 
-pub ten-moves : MovesAlike ten
-ten-moves = moves-alike ten ten-arranged
+pub stated-moves : (k a : ℕ) → MovesAlike (stated k a)
+stated-moves k a = moves-alike (stated k a) (own-arranged k a)
 
-pub ten-back : MovesBack ten
-ten-back = moves-back ten ten-arranged
+pub stated-back : (k a : ℕ) → MovesBack (stated k a)
+stated-back k a = moves-back (stated k a) (own-arranged k a)
 
 -- the plain arrangement, and the card's, as the calls' contracts name them
-pub plain-moves : Moves (stated 0) (stated 0 .arrangement)
-unfolding MovesAlike stated
-plain-moves = ten-moves (ten .arrangement) ten-arranged
+pub plain-moves : Moves (stated 10 0) (stated 10 0 .arrangement)
+unfolding MovesAlike
+plain-moves = stated-moves 10 0 (stated 10 0 .arrangement) (own-arranged 10 0)
 
-pub card-moves : Moves (stated 0) (stated 1 .arrangement)
+pub card-moves : Moves (stated 10 0) (stated 10 1 .arrangement)
 unfolding MovesAlike stated tenMoved
-card-moves = ten-moves (ten .order) passing-arranged
+card-moves = stated-moves 10 0 (stated 10 1 .arrangement) (own-arranged 10 1)
 
-pub card-is : stated 1 ≡ arranged (stated 1 .arrangement) (stated 0)
+pub card-is : stated 10 1 ≡ arranged (stated 10 1 .arrangement) (stated 10 0)
 unfolding stated tenMoved
 card-is = refl
 
 -- the card's places, computed: those of a track, then two by their bytes
 pub record CardPlaces : Type 0 where
-  pub of-track : map (sectorAt (stated 1) (tracked (stated 1) 40)) (range 0 10)
-      ≡ map (sectorNumber (tracked (stated 1) 40) 0) (1 ∷ 4 ∷ 7 ∷ 10 ∷ 3 ∷ 6 ∷ 9 ∷ 2 ∷ 5 ∷ 8 ∷ [])
-  pub starts-0-4 : startOf (stated 1) (tracked (stated 1) 40) (sectorNumber (tracked (stated 1) 40) 0 4) ≡ 256
-  pub starts-39-10 : startOf (stated 1) (tracked (stated 1) 40) (sectorNumber (tracked (stated 1) 40) 39 10) ≡ 100608
+  pub of-track : map (sectorAt (stated 10 1) (tracked (stated 10 1) 40)) (range 0 10)
+      ≡ map (sectorNumber (tracked (stated 10 1) 40) 0) (1 ∷ 4 ∷ 7 ∷ 10 ∷ 3 ∷ 6 ∷ 9 ∷ 2 ∷ 5 ∷ 8 ∷ [])
+  pub starts-0-4 : startOf (stated 10 1) (tracked (stated 10 1) 40) (sectorNumber (tracked (stated 10 1) 40) 0 4) ≡ 256
+  pub starts-39-10 : startOf (stated 10 1) (tracked (stated 10 1) 40) (sectorNumber (tracked (stated 10 1) 40) 39 10) ≡ 100608
 
 pub card-places : CardPlaces
 unfolding stated tenMoved ten placeOf sectorAt
 card-places = record { of-track = refl; starts-0-4 = refl; starts-39-10 = refl }
 
--- ---- another number
+-- ---- what gives 1
 
-pub other-numbers : OtherNumbers
-unfolding OtherNumbers view asked changed blank answerBy afterCheck checkAnswerBy afterList listAnswerBy afterRead afterSave afterDelete afterRename afterProtect afterBlank _>>=_ number valueOr
-other-numbers a h =
+none-gives-one : GivesOne unknown
+unfolding view asked changed blank answerBy afterCheck checkAnswerBy afterList listAnswerBy afterRead afterSave afterDelete afterRename afterProtect afterBlank _>>=_ number valueOr
+none-gives-one =
     record {
-      check = λ image. rw (other-number a h (length image));
-      list = λ image buffer. rw (other-number a h (length image));
-      read = λ image name buffer. rw (other-number a h (length image));
-      save = λ image name m. rw (other-number a h (length image));
-      delete = λ image name. rw (other-number a h (length image));
-      rename = λ image old new. rw (other-number a h (length image));
-      protect = λ image name on. rw (other-number a h (length image));
-      blank = λ image name. rw (other-number a h (length image));
-      view = λ image t s. rw (other-number a h (length image));
+      check = λ image. rw (no-disc (length image));
+      list = λ image buffer. rw (no-disc (length image));
+      read = λ image name buffer. rw (no-disc (length image));
+      save = λ image name m. rw (no-disc (length image));
+      delete = λ image name. rw (no-disc (length image));
+      rename = λ image old new. rw (no-disc (length image));
+      protect = λ image name on. rw (no-disc (length image));
+      blank = λ image name. rw (no-disc (length image));
+      view = λ image t s. rw (no-disc (length image));
     }
 
--- ---- the arrangement of what a caller states
-
-known-arranged : (F : Format) → Arrangement F (F .arrangement) → (n : ℕ) (G : Geometry) → geometry F n ≡ ok G → Arranged F G
-known-arranged F own n G g = subst (λ (k : ℕ). Once (suc k) (F .arrangement)) (sym (geometry-ok F n G g .per-track)) own
-
-moved-arranged : Arrangement tenMoved (tenMoved .arrangement)
-unfolding tenMoved ten
-moved-arranged = passing-arranged
-
-pub stated-arranged : (a n : ℕ) (G : Geometry) → geometry (stated a) n ≡ ok G → Arranged (stated a) G
-stated-arranged =
-    stated-cases (λ F. (n : ℕ) (G : Geometry) → geometry F n ≡ ok G → Arranged F G)
-    (known-arranged ten ten-arranged) (known-arranged tenMoved moved-arranged) (λ n G g. absurd (refused-ok (sym (no-disc n) ∙ g)))
+pub other-numbers : OtherNumbers
+other-numbers =
+    record {
+      arrangement = λ k a h. subst GivesOne (sym (other-arrangement k a h)) none-gives-one;
+      per-track = λ k a h i. subst GivesOne (sym (other-sectors k a h i)) none-gives-one;
+      nine-moved = subst GivesOne (sym nine-moved) none-gives-one;
+    }

@@ -1,21 +1,19 @@
 -- A blank disc passes the check: it is itself a start of demand 3.
 -- Assumes nothing.
 use mathlib.Core.Path.{_≡_, refl, sym, ap, _∙_}
-use Prim.Native.Nat.{ℕ, suc, _≤_}
+use Prim.Native.Nat.{ℕ}
 use native.Mathlib.Omega.{arith}
-use native.Mathlib.Decide.{ℕ-discrete, decLe}
-use native.Mathlib.Nat.{lt-of-not-le}
 use mathlib.Core.Bool.{Bool, cond, true, false}
 use mathlib.Core.Option.{none, some}
 use mathlib.Core.List.{List}
 use lib.ListN.{length}
-use Rattle.format.specs.Lists.{padded, times, Once}
-use Rattle.format.specs.ListLaws.{All, at-all, padded-long}
-use Rattle.format.specs.MovingLaws.{passing-arranged}
+use Rattle.format.specs.Lists.{padded}
+use Rattle.format.specs.ListLaws.{once-inside, padded-long}
 use Rattle.format.specs.Refusals.{NAME, ok, _>>=_, number, valueOr}
 use Rattle.format.specs.RefusalLaws.{ok-is, or-ok, then-ok}
-use Rattle.format.specs.Geometry.{Format, ten, tenMoved, unknown, stated, Geometry, geometry, cut, flat}
-use Rattle.format.specs.GeometryLaws.{no-disc, stated-cases, ImageOf, geometry-ok, cut-flat, flat-long}
+use Rattle.format.specs.Geometry.{Format, unknown, stated, Geometry, geometry, cut, flat}
+use Rattle.format.specs.GeometryLaws.{no-disc, ImageOf, geometry-ok, cut-flat, flat-long}
+use Rattle.format.specs.Formats.{GoodFormat, four, good-arranged, stated-cases}
 use Rattle.format.specs.Names.{space, letters, discName}
 use Rattle.format.specs.NameLaws.{letters-true}
 use Rattle.format.specs.Check.{broken}
@@ -24,14 +22,8 @@ use Rattle.format.specs.Calls.{asked, blank, answerBy, checkAnswerBy, afterChec
 use Rattle.history.specs.Demand3.{BlankStarts}
 use Rattle.soundness.specs.Laid.{laid-sound}
 use Rattle.history.specs.Answers.{zero-ok}
-use Rattle.history.specs.Demand.{SoundFormat, image-bounded, image-arranged, ten-sound, moved-sound}
+use Rattle.history.specs.Demand.{image-bounded}
 use Rattle.history.specs.BlankLaid.{Passes, blank-full, blank-laid}
-
--- a kind of disc whose order passes each sector of a track once
-pub record OrderedFormat (F : Format) : Type 0 where
-  pub sound-format : SoundFormat F
-  pub four : 4 ≤ F .perTrack
-  pub passes-once : Once (suc (F .perTrack)) (F .order)
 
 disc-nine : (name nine : List ℕ) → discName name ≡ some nine → length nine ≡ 9
 unfolding discName
@@ -41,30 +33,18 @@ disc-nine name nine e = by (letters 1 9 name) refl e
     by true p q = let is : padded 9 space name ≡ nine = cc in sym (ap length is) ∙ padded-long 9 space name (letters-true 1 9 name p .high)
     by false p q = let z : _≡_ {A = ℕ} 0 1 = cc in absurd (omega arith)
 
-once-inside : {k : ℕ} {xs : List ℕ} → Once (suc k) xs → All (λ s. (1 ≤ s) × (s ≤ k)) xs
-once-inside {k} {xs} o = at-all xs (λ n h. (
-  elim (ℕ-discrete n 0) [
-    | yes e ↦ absurd (omega (arith, ap (λ (m : ℕ). times m xs) e, o .zeroth))
-    | no e ↦ omega arith
-  ],
-  elim (decLe n k) [
-    | yes e ↦ e
-    | no e ↦ absurd (omega (arith, o .outside n (lt-of-not-le e)))
-  ],
-))
-
-passes : {F : Format} {G : Geometry} {n : ℕ} → OrderedFormat F → ImageOf F G n → Passes G
+passes : {F : Format} {G : Geometry} {n : ℕ} → GoodFormat F → ImageOf F G n → Passes G
 passes {G = G} o i =
     record {
-      bounded = image-bounded (o .sound-format) i;
+      bounded = image-bounded o i;
       some-track = i .some-track;
-      four = rw (i .per-track) (o .four);
+      four = rw (i .per-track) (four o);
       inside = rw (i .in-order, i .per-track) (once-inside (o .passes-once));
       each = rw (i .in-order, i .per-track) (λ s a b. o .passes-once .inside s a (omega arith));
     }
 
 -- what an accepted blank leaves: an image of the same geometry that no rule of the check finds broken
-pub blank-sound : (F : Format) → OrderedFormat F → (image name image′ : List ℕ) → blank F image name ≡ ok image′
+pub blank-sound : (F : Format) → GoodFormat F → (image name image′ : List ℕ) → blank F image name ≡ ok image′
     → (G : Geometry) × (geometry F (length image′) ≡ ok G) × (broken G (cut F G image′) ≡ 0)
 unfolding blank
 blank-sound F o image name image′ e =
@@ -74,7 +54,7 @@ blank-sound F o image name image′ e =
     let nine : List ℕ = b .0 in
     let i = geometry-ok F (length image) G (a .1) in
     let long = disc-nine name nine (b .1) in
-    let arr = image-arranged (o .sound-format) i in
+    let arr = good-arranged o i in
     let z = blank-full G (passes o i) nine long in
     let is : flat F G (blankDisc G nine) ≡ image′ = ok-is (b .2) in
     let size : length image′ ≡ length image = sym (ap length is) ∙ flat-long F G arr (blankDisc G nine) z ∙ sym (i .long) in
@@ -82,24 +62,16 @@ blank-sound F o image name image′ e =
     (G, ap (geometry F) size ∙ a .1, ap (broken G) disc ∙ laid-sound (blank-laid G (passes o i) nine long))
 
 -- for every kind of disc
-pub blank-starts-of : (F : Format) → OrderedFormat F → BlankStarts F
+pub blank-starts-of : (F : Format) → GoodFormat F → BlankStarts F
 unfolding BlankStarts afterBlank answerBy afterCheck checkAnswerBy asked number valueOr _>>=_
 blank-starts-of F o image name e =
     let r = blank-sound F o image name (valueOr image (blank F image name)) (zero-ok image (blank F image name) e) in
     rw (r .1) (ap (λ (k : ℕ). record { number = 0; rule = k }) (r .2))
 
-pub ten-ordered : OrderedFormat ten
-unfolding ten
-ten-ordered = record { sound-format = ten-sound; four = omega arith; passes-once = passing-arranged }
-
-pub moved-ordered : OrderedFormat tenMoved
-unfolding tenMoved ten
-moved-ordered = record { sound-format = moved-sound; four = omega arith; passes-once = passing-arranged }
-
 none-starts : BlankStarts unknown
 unfolding BlankStarts afterBlank answerBy blank number _>>=_
 none-starts image name e = let z : _≡_ {A = ℕ} 1 0 = rw (no-disc (length image)) at e in absurd (omega arith)
 
--- for whatever arrangement a caller states
-pub blank-starts : (a : ℕ) → BlankStarts (stated a)
-blank-starts = stated-cases BlankStarts (blank-starts-of ten ten-ordered) (blank-starts-of tenMoved moved-ordered) none-starts
+-- for whatever sectors and arrangement a caller states
+pub blank-starts : (k a : ℕ) → BlankStarts (stated k a)
+blank-starts = stated-cases BlankStarts blank-starts-of none-starts

@@ -11,6 +11,7 @@ use Rattle.format.specs.ListLaws.{All, done, _also_, all-mapped}
 use Rattle.format.specs.Refusals.{NOT-PLAIN, ok, _>>_, refuse_if_, _orRefuse_}
 use Rattle.format.specs.RefusalLaws.{then-ok}
 use Rattle.format.specs.Geometry.{Format, Geometry, geometry, Disc, cut}
+use Rattle.format.specs.Formats.{GoodFormat}
 use Rattle.format.specs.Names.{stored}
 use Rattle.format.specs.Layout.{Slot, entries}
 use Rattle.format.specs.Modules.{Module}
@@ -23,7 +24,7 @@ use Rattle.history.specs.Demand3.{isSound, Handed, Moment}
 use Rattle.history.specs.OnlyOne.{all-got}
 use Rattle.history.specs.Answers.{zero-ok}
 use Rattle.history.specs.State.{nine-of}
-use Rattle.history.specs.Demand.{SoundFormat, run-moment, checked-sound}
+use Rattle.history.specs.Demand.{run-moment, checked-sound}
 
 all-any : {A : Type 0} {P : A → Type 0} (xs : List A) → ((x : A) → P x) → All P xs
 all-any [] h = done
@@ -49,7 +50,7 @@ saved-typed F s name m e =
     let q = save-ok (a .0) (cut F (a .0) s) name m (b .0) (b .1) in
     q .typed ∙ ap some (sym (nine-of name (q .typed)))
 
-module _ (F : Format) (f : SoundFormat F) (s : List ℕ) (G : Geometry) (g : geometry F (length s) ≡ ok G) (checked : afterCheck F s ≡ isSound) where
+module _ (F : Format) (f : GoodFormat F) (s : List ℕ) (G : Geometry) (g : geometry F (length s) ≡ ok G) (checked : afterCheck F s ≡ isSound) where
   -- "At the start these are the entries', each reading as read with a buffer of 65,536 bytes gives it."
   pub opening-reads : (i : ℕ) (file : File) → getElem? (openingBook G (cut F G s) .files) i ≡ some file
       → (typed buffer : List ℕ) → stored typed ≡ some (file .name) → length buffer ≡ 65536 → afterRead F s typed buffer ≡ readAnswerBy buffer (file .reading orRefuse NOT-PLAIN)

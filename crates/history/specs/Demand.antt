@@ -2,19 +2,17 @@
 -- Assumes nothing.
 use mathlib.Core.Path.{_≡_, refl, sym, ap, _∙_, subst}
 use mathlib.Core.Logic.{_≢_}
-use Prim.Native.Nat.{ℕ, zero, suc, _*_, _≤_, _<_}
+use Prim.Native.Nat.{ℕ, zero, suc, _*_, _≤_}
 use native.Mathlib.Omega.{arith}
 use native.Mathlib.Nat.{mul-le-mul-left}
 use mathlib.Core.List.{List, [], _∷_}
 use lib.ListN.{length, take, length-map}
-use Rattle.format.specs.Lists.{Once}
 use Rattle.format.specs.Refusals.{Refusal, numberOf, Try, refused, ok, _>>=_, number, valueOr}
 use Rattle.format.specs.RefusalLaws.{refused-ok, refusal-number}
-use Rattle.format.specs.Geometry.{Format, ten, tenMoved, unknown, stated, Geometry, geometry, Disc, cut, flat, Write, written}
+use Rattle.format.specs.Geometry.{Format, unknown, stated, Geometry, geometry, Disc, cut, flat, Write, written}
 use Rattle.format.specs.Arrangements.{Arranged}
-use Rattle.format.specs.Moving.{Arrangement}
-use Rattle.format.specs.MovingLaws.{ten-arranged, passing-arranged}
-use Rattle.format.specs.GeometryLaws.{no-disc, stated-cases, ImageOf, geometry-ok, cut-full, cut-flat, flat-long}
+use Rattle.format.specs.Formats.{GoodFormat, four, good-arranged, stated-cases}
+use Rattle.format.specs.GeometryLaws.{no-disc, ImageOf, geometry-ok, cut-full, cut-flat, flat-long}
 use Rattle.format.specs.Layout.{slotsEach, slotsOf, directory, free, slots, entries}
 use Rattle.format.specs.Check.{broken}
 use Rattle.format.specs.Calls.{saveOn, deleteOn, renameOn, protectOn, asked, changed, answerBy, CheckAnswer, checkAnswerBy, afterCheck, afterSave, afterDelete, afterRename, afterProtect}
@@ -29,17 +27,12 @@ use Rattle.history.specs.BookFiles.{fileOf, filesOf}
 use Rattle.history.specs.State.{State, protect-state, delete-state, rename-state, save-state}
 use Rattle.history.specs.Moments.{moment}
 
--- a kind of disc with a sector on each track, whose sector numbers fit a byte, and with each sector of a track at one place
-pub record SoundFormat (F : Format) : Type 0 where
-  pub some-sector : 0 < F .perTrack
-  pub few : F .perTrack < 256
-  pub each-once : Arrangement F (F .arrangement)
-
-pub image-arranged : {F : Format} {G : Geometry} {n : ℕ} → SoundFormat F → ImageOf F G n → Arranged F G
-image-arranged {F} f i = subst (λ (k : ℕ). Once (suc k) (F .arrangement)) (sym (i .per-track)) (f .each-once)
-
-pub image-bounded : {F : Format} {G : Geometry} {n : ℕ} → SoundFormat F → ImageOf F G n → Bounded G
-image-bounded {F} {G} f i = record { some-sector = omega (arith, f .some-sector, i .per-track); few = omega (arith, mul-le-mul-left (G .perTrack) (i .few-tracks), f .few, i .per-track) }
+pub image-bounded : {F : Format} {G : Geometry} {n : ℕ} → GoodFormat F → ImageOf F G n → Bounded G
+image-bounded {F} {G} f i =
+    record {
+      some-sector = omega (arith, four f, i .per-track);
+      few = omega (arith, mul-le-mul-left (G .perTrack) (i .few-tracks), f .few, i .per-track);
+    }
 
 -- ---- what a command leaves of the book
 
@@ -57,12 +50,12 @@ unchanged-book b c (suc k) e = refl
 
 -- ---- a run
 
-module _ (F : Format) (f : SoundFormat F) (s : List ℕ) (G : Geometry) (g : geometry F (length s) ≡ ok G) where
+module _ (F : Format) (f : GoodFormat F) (s : List ℕ) (G : Geometry) (g : geometry F (length s) ≡ ok G) where
   size : ImageOf F G (length s)
   size = geometry-ok F (length s) G g
 
   arr : Arranged F G
-  arr = image-arranged f size
+  arr = good-arranged f size
 
   -- a moment of a run from s on
   pub record At (image : List ℕ) (b : Book) : Type 0 where
@@ -147,24 +140,15 @@ unfolding afterCheck checkAnswerBy asked _>>=_ valueOr
 checked-sound F s G g e = ap (λ (c : CheckAnswer). c .rule) (rw g at e)
 
 -- for every kind of disc
-pub demand-3-of : (F : Format) → SoundFormat F → Demand3 F
+pub demand-3-of : (F : Format) → GoodFormat F → Demand3 F
 unfolding Demand3
 demand-3-of F f s G g checked cs handed k l = run-moment F f s G g (checked-sound F s G g checked) cs handed k l
-
--- ten sectors a track, plain and moved
-pub ten-sound : SoundFormat ten
-unfolding ten
-ten-sound = record { some-sector = omega arith; few = omega arith; each-once = ten-arranged }
-
-pub moved-sound : SoundFormat tenMoved
-unfolding tenMoved ten
-moved-sound = record { some-sector = omega arith; few = omega arith; each-once = passing-arranged }
 
 -- a kind of disc that there isn't has no runs
 none-runs : Demand3 unknown
 unfolding Demand3
 none-runs s G g = absurd (refused-ok (sym (no-disc (length s)) ∙ g))
 
--- for whatever arrangement a caller states, "one throughout, in a run from the check of its start on"
-pub demand-3 : (a : ℕ) → Demand3 (stated a)
-demand-3 = stated-cases Demand3 (demand-3-of ten ten-sound) (demand-3-of tenMoved moved-sound) none-runs
+-- for whatever sectors and arrangement a caller states, "one throughout, in a run from the check of its start on"
+pub demand-3 : (k a : ℕ) → Demand3 (stated k a)
+demand-3 = stated-cases Demand3 demand-3-of none-runs

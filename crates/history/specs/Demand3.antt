@@ -65,13 +65,13 @@ pub record Moment (F : Format) (G : Geometry) (s image : List ℕ) (b : Book) : 
   pub absent : (typed nine buffer : List ℕ) → stored typed ≡ some nine → any (named nine) (b .files) ≡ false
       → afterRead F image typed buffer ≡ readAnswerBy buffer (refused ABSENT)
 
--- The claim, over the whole list. F is what the caller states, "one throughout, in a run from the check of its start on" (document 02, k).
+-- The claim, over the whole list. F is what the caller states, "one throughout, in a run from the check of its start on" (document 02, k and m).
 unfoldable pub Demand3 : Format → Type 0
 Demand3 F =
     (s : List ℕ) (G : Geometry) → geometry F (length s) ≡ ok G → afterCheck F s ≡ isSound
     → (cs : List Command) → AllHanded cs → (k : ℕ) → k ≤ length cs
     → Moment F G s (run F s (take k cs)) (bookAfter F (openingBook G (cut F G s)) s (take k cs))
 
--- "A blank disc is itself a start", in the arrangement in which it was made.
+-- "A blank disc is itself a start", stated as it was made.
 unfoldable pub BlankStarts : Format → Type 0
 BlankStarts F = (image name : List ℕ) → afterBlank F image name .number ≡ 0 → afterCheck F (afterBlank F image name .image) ≡ isSound

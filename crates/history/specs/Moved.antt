@@ -44,7 +44,7 @@ opening-moved F A own other s G g = ap (openingBook G) (moved-sectors F own A ot
 
 -- the card's arrangement, as the calls' contracts name it
 pub card-run : (image : List ℕ) (cs : List Command)
-    → run (stated 1) (movedForm (stated 0) (stated 1 .arrangement) image) cs ≡ movedForm (stated 0) (stated 1 .arrangement) (run (stated 0) image cs)
+    → run (stated 10 1) (movedForm (stated 10 0) (stated 10 1 .arrangement) image) cs ≡ movedForm (stated 10 0) (stated 10 1 .arrangement) (run (stated 10 0) image cs)
 card-run image cs =
-    ap (λ (F : Format). run F (movedForm (stated 0) (stated 1 .arrangement) image) cs) card-is
-    ∙ run-moved (stated 0) (stated 1 .arrangement) card-moves image cs
+    ap (λ (F : Format). run F (movedForm (stated 10 0) (stated 10 1 .arrangement) image) cs) card-is
+    ∙ run-moved (stated 10 0) (stated 10 1 .arrangement) card-moves image cs

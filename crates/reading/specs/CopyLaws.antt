@@ -6,8 +6,8 @@ use native.Mathlib.Omega.{arith}
 use native.Mathlib.Nat.{suc-sub-suc}
 use mathlib.Core.Option.{Option, none, some}
 use mathlib.Core.List.{List, [], _∷_, _++_}
-use lib.ListN.{length, set, take, drop}
-use lib.Seq.{sets, length-sets, slice, drop-drop, sets-eq}
+use lib.ListN.{length, set, take, drop, length-drop}
+use lib.Seq.{sets, length-sets, slice, drop-drop, sets-eq, take-all}
 use Rattle.format.specs.Lists.{byte, front}
 use Rattle.format.specs.ListLaws.{drop-take}
 use Rattle.format.specs.Geometry.{sector}
@@ -53,6 +53,18 @@ copied-on {s} {k} {buffer} {buffer′} {at} {end} {r} c h ys =
     ap₂ (λ (x : List ℕ) (j : ℕ). sets x j (take (end - j) ys)) (c .stored) (c .next)
     ∙ sets-append buffer at part (take (end - (at + length part)) ys)
     ∙ ap (sets buffer at) (ap (λ (j : ℕ). part ++ take j ys) left ∙ sym (take-over (end - at) (drop k s) ys))
+
+-- all of what stands from place k on, where there is room for more
+pub copied-whole : {s : List ℕ} {k : ℕ} {buffer buffer′ : List ℕ} {at end r : ℕ} → k + 253 ≡ length s → at + 253 ≤ end
+    → Copied s k buffer buffer′ at (at + 253) r → Copied s k buffer buffer′ at end r
+copied-whole {s} {k} {buffer} {buffer′} {at} {end} {r} long room c =
+    let all : (m : ℕ) → 253 ≤ m → take m (drop k s) ≡ drop k s = λ m h. take-all m (drop k s) (omega (arith, length-drop k s, long)) in
+    let same : take (at + 253 - at) (drop k s) ≡ take (end - at) (drop k s) = all (at + 253 - at) (omega arith) ∙ sym (all (end - at) (omega arith)) in
+    record {
+      stored = c .stored ∙ ap (sets buffer at) same;
+      next = c .next ∙ ap (λ (xs : List ℕ). at + length xs) same;
+      inside = omega (arith, c .inside);
+    }
 
 pub copied-long : {s : List ℕ} {k : ℕ} {buffer buffer′ : List ℕ} {at end r : ℕ} → Copied s k buffer buffer′ at end r → length buffer′ ≡ length buffer
 copied-long {s} {k} {buffer} {buffer′} {at} {end} c = ap length (c .stored) ∙ length-sets buffer at (take (end - at) (drop k s))

@@ -204,6 +204,25 @@ fn copy_part(
     at + size
 }
 
+// The bytes of a sector after the file's first. A sector that is copied whole is a case of its own: its copy has a fixed length, which is
+// quicker.
+fn copy_later(
+    image: &[u8],
+    g: Geometry,
+    s: Sector,
+    buffer: &mut [u8],
+    at: usize,
+    end: usize,
+) -> usize
+    requires { ⌜ Image g (now image) × Lies g s × (at ≤ end) × (end ≤ length (now buffer)) ⌝ }
+    ensures { λ r. ⌜ Copied (sector (sectorsOf g (now (image .entry))) (s .number .0)) 3 (now (buffer .entry)) (now (buffer .exit)) at end r ⌝ }
+{
+    if 253 <= end - at {
+        return copy_part(image, g, s, 3, buffer, at, at + 253);
+    }
+    copy_part(image, g, s, 3, buffer, at, end)
+}
+
 // Copies the bytes of the module in a file of `count` sectors from `first` on to the front of the buffer; `size` is how many they are.
 fn copy_module(
     image: &[u8],
@@ -222,7 +241,7 @@ fn copy_module(
     let mut j: usize = 1;
     while j < count {
         s = next_of(image, g, s);
-        at = copy_part(image, g, s, 3, buffer, at, size);
+        at = copy_later(image, g, s, buffer, at, size);
         j += 1;
     }
 }

@@ -10,8 +10,8 @@ use mathlib.Core.List.{List, [], _∷_, map}
 use lib.ListN.{length, take, drop, replicate}
 use Rattle.format.specs.Refusals.{_>>=_, _>>_, refuse_if_, _orRefuse_, number, valueOr}
 use Rattle.format.specs.Geometry.{Geometry, Disc, ten, tracked, geometry, sectorNumber, pointed, placeOf, sectorAt, chunks, reordered, cut, flat, sector}
-use Rattle.format.specs.MovingLaws.{ten-arranged}
 use Rattle.format.specs.GeometryLaws.{sector-cut}
+use Rattle.format.specs.Formats.{ten-good}
 use Rattle.format.specs.Names.{letter, letters, beforeDot, afterDot, withExtension, stored, discName, spaced, legalStored}
 use Rattle.format.specs.Layout.{freeCount, emptySlot, freeSlot, inUse, slotAt, slotsAt, slotsOf, met, ends, directory, free, slots, entries, openSlot, find, fileChain, fileSectors}
 use Rattle.format.specs.Check.{goodEntry, differ, rule1, rule2, counted, rule3, rule4, goodChain, rule5, rule6, rule7, rule8, broken}
@@ -22,7 +22,7 @@ use Rattle.format.specs.Calls.{listOn, readOn, saveBeforeOn, saveOn, deleteOn, 
 -- ---- what the examples are about
 
 -- the bytes of a text
-abbrev text : String → List ℕ
+abbrev pub text : String → List ℕ
 text []ᵗ = []
 text (c ∷ᵗ s) = code c ∷ text s
 
@@ -31,7 +31,7 @@ blankOf : (tracks : ℕ) → List ℕ
 blankOf T = afterBlank ten (replicate (2560 * T) 0) (text "PIECES") .image
 
 -- a module of L bytes on page 0
-moduleOf : (start L : ℕ) → Module
+abbrev pub moduleOf : (start L : ℕ) → Module
 moduleOf start L = record { page = 0; start = start; transfer = start; bytes = replicate L 7 }
 
 -- what each call that takes a file name answers for this one
@@ -99,7 +99,7 @@ record Starred : Type 0 where
       }
 
 starred : Starred
-unfolding _>>=_ _>>_ refuse_if_ _orRefuse_ number valueOr ten geometry pointed placeOf sectorAt chunks reordered cut flat letter letters beforeDot afterDot withExtension stored discName spaced legalStored emptySlot freeSlot inUse slotAt slotsAt slotsOf met ends directory free slots entries openSlot find fileChain fileSectors goodEntry differ rule1 rule2 counted rule3 rule4 goodChain rule5 rule6 rule7 rule8 broken allowed sectorsFor firstBody laterBody laterBodies bodies guessed plain withSlot chained systemWrite entryBytes growth needed entryWrites saveWrites deleteWrites reading listing passing version blankFree blankSystem blankDisc listOn readOn saveBeforeOn saveOn deleteOn renameOn protectOn asked changed blank answerBy listAnswerBy readAnswerBy afterList afterRead afterSave afterDelete afterRename afterProtect afterBlank blankOf moduleOf answers afterThursday forty disc40 _/:_
+unfolding _>>=_ _>>_ refuse_if_ _orRefuse_ number valueOr ten geometry pointed placeOf sectorAt chunks reordered cut flat letter letters beforeDot afterDot withExtension stored discName spaced legalStored emptySlot freeSlot inUse slotAt slotsAt slotsOf met ends directory free slots entries openSlot find fileChain fileSectors goodEntry differ rule1 rule2 counted rule3 rule4 goodChain rule5 rule6 rule7 rule8 broken allowed sectorsFor firstBody laterBody laterBodies bodies guessed plain withSlot chained systemWrite entryBytes growth needed entryWrites saveWrites deleteWrites reading listing passing version blankFree blankSystem blankDisc listOn readOn saveBeforeOn saveOn deleteOn renameOn protectOn asked changed blank answerBy listAnswerBy readAnswerBy afterList afterRead afterSave afterDelete afterRename afterProtect afterBlank blankOf answers afterThursday forty disc40 _/:_
 starred =
     record {
       name-X = refl;
@@ -113,8 +113,8 @@ starred =
       takes-246 = refl;
       takes-498 = refl;
       takes-65536 = refl;
-      starts-0-7 = λ image. sector-cut ten forty ten-arranged image (0 /: 7) (omega arith);
-      starts-39-10 = λ image. sector-cut ten forty ten-arranged image (39 /: 10) (omega arith);
+      starts-0-7 = λ image. sector-cut ten forty (ten-good .each-once) image (0 /: 7) (omega arith);
+      starts-39-10 = λ image. sector-cut ten forty (ten-good .each-once) image (39 /: 10) (omega arith);
       free-40 = refl;
       count-40 = refl;
       free-1 = refl;

@@ -20,10 +20,13 @@ pub struct CheckNumbers {
 }
 
 #[no_mangle]
-pub extern "C" fn tandos_check(image: &[u8], arrangement: u32) -> CheckNumbers
-    ensures { λ r. ⌜ checkAnswer r ≡ afterCheck (stated arrangement) (now (image .entry)) ⌝ }
+pub extern "C" fn tandos_check(image: &[u8], sectors: u32, arrangement: u32) -> CheckNumbers
+    ensures { λ r. ⌜ checkAnswer r ≡ afterCheck (stated sectors arrangement) (now (image .entry)) ⌝ }
 {
-    let kind = Stated { arrangement };
+    let kind = Stated {
+        sectors,
+        arrangement,
+    };
     match fsck::check(image, kind) {
         Checked::Size => CheckNumbers {
             number: refusals::SIZE,
@@ -41,29 +44,42 @@ pub extern "C" fn tandos_check(image: &[u8], arrangement: u32) -> CheckNumbers
 }
 
 #[no_mangle]
-pub extern "C" fn tandos_list(image: &[u8], arrangement: u32, buffer: &mut [u8]) -> Listed
-    ensures { λ r. ⌜ listAnswer r (now (buffer .exit)) ≡ afterList (stated arrangement) (now (image .entry)) (now (buffer .entry)) ⌝ }
+pub extern "C" fn tandos_list(
+    image: &[u8],
+    sectors: u32,
+    arrangement: u32,
+    buffer: &mut [u8],
+) -> Listed
+    ensures { λ r. ⌜ listAnswer r (now (buffer .exit)) ≡ afterList (stated sectors arrangement) (now (image .entry)) (now (buffer .entry)) ⌝ }
 {
-    let kind = Stated { arrangement };
+    let kind = Stated {
+        sectors,
+        arrangement,
+    };
     listing::list(image, kind, buffer)
 }
 
 #[no_mangle]
 pub extern "C" fn tandos_read(
     image: &[u8],
+    sectors: u32,
     arrangement: u32,
     name: &[u8],
     buffer: &mut [u8],
 ) -> Reading
-    ensures { λ r. ⌜ readAnswer r (now (buffer .exit)) ≡ afterRead (stated arrangement) (now (image .entry)) (now (name .entry)) (now (buffer .entry)) ⌝ }
+    ensures { λ r. ⌜ readAnswer r (now (buffer .exit)) ≡ afterRead (stated sectors arrangement) (now (image .entry)) (now (name .entry)) (now (buffer .entry)) ⌝ }
 {
-    let kind = Stated { arrangement };
+    let kind = Stated {
+        sectors,
+        arrangement,
+    };
     reading::read(image, kind, name, buffer)
 }
 
 #[no_mangle]
 pub extern "C" fn tandos_save(
     image: &mut [u8],
+    sectors: u32,
     arrangement: u32,
     name: &[u8],
     page: u32,
@@ -71,59 +87,109 @@ pub extern "C" fn tandos_save(
     transfer: u16,
     sheet: &[u8],
 ) -> u32
-    ensures { λ r. ⌜ answered r (now (image .exit)) ≡ afterSave (stated arrangement) (now (image .entry))
+    ensures { λ r. ⌜ answered r (now (image .exit)) ≡ afterSave (stated sectors arrangement) (now (image .entry))
         (now (name .entry)) (handed page start transfer (now (sheet .entry))) ⌝ }
 {
-    let kind = Stated { arrangement };
+    let kind = Stated {
+        sectors,
+        arrangement,
+    };
     saving::save(image, kind, name, page, start, transfer, sheet)
 }
 
 #[no_mangle]
-pub extern "C" fn tandos_delete(image: &mut [u8], arrangement: u32, name: &[u8]) -> u32
-    ensures { λ r. ⌜ answered r (now (image .exit)) ≡ afterDelete (stated arrangement) (now (image .entry)) (now (name .entry)) ⌝ }
+pub extern "C" fn tandos_delete(
+    image: &mut [u8],
+    sectors: u32,
+    arrangement: u32,
+    name: &[u8],
+) -> u32
+    ensures { λ r. ⌜ answered r (now (image .exit)) ≡ afterDelete (stated sectors arrangement) (now (image .entry)) (now (name .entry)) ⌝ }
 {
-    let kind = Stated { arrangement };
+    let kind = Stated {
+        sectors,
+        arrangement,
+    };
     commands::delete(image, kind, name)
 }
 
 #[no_mangle]
-pub extern "C" fn tandos_rename(image: &mut [u8], arrangement: u32, old: &[u8], new: &[u8]) -> u32
-    ensures { λ r. ⌜ answered r (now (image .exit)) ≡ afterRename (stated arrangement) (now (image .entry)) (now (old .entry)) (now (new .entry)) ⌝ }
+pub extern "C" fn tandos_rename(
+    image: &mut [u8],
+    sectors: u32,
+    arrangement: u32,
+    old: &[u8],
+    new: &[u8],
+) -> u32
+    ensures { λ r. ⌜ answered r (now (image .exit)) ≡ afterRename (stated sectors arrangement) (now (image .entry)) (now (old .entry)) (now (new .entry)) ⌝ }
 {
-    let kind = Stated { arrangement };
+    let kind = Stated {
+        sectors,
+        arrangement,
+    };
     commands::rename(image, kind, old, new)
 }
 
 #[no_mangle]
-pub extern "C" fn tandos_protect(image: &mut [u8], arrangement: u32, name: &[u8], on: u32) -> u32
-    ensures { λ r. ⌜ answered r (now (image .exit)) ≡ afterProtect (stated arrangement) (now (image .entry)) (now (name .entry)) on ⌝ }
+pub extern "C" fn tandos_protect(
+    image: &mut [u8],
+    sectors: u32,
+    arrangement: u32,
+    name: &[u8],
+    on: u32,
+) -> u32
+    ensures { λ r. ⌜ answered r (now (image .exit)) ≡ afterProtect (stated sectors arrangement) (now (image .entry)) (now (name .entry)) on ⌝ }
 {
-    let kind = Stated { arrangement };
+    let kind = Stated {
+        sectors,
+        arrangement,
+    };
     commands::protect(image, kind, name, on)
 }
 
 #[no_mangle]
-pub extern "C" fn tandos_blank(image: &mut [u8], arrangement: u32, name: &[u8]) -> u32
-    ensures { λ r. ⌜ answered r (now (image .exit)) ≡ afterBlank (stated arrangement) (now (image .entry)) (now (name .entry)) ⌝ }
+pub extern "C" fn tandos_blank(image: &mut [u8], sectors: u32, arrangement: u32, name: &[u8]) -> u32
+    ensures { λ r. ⌜ answered r (now (image .exit)) ≡ afterBlank (stated sectors arrangement) (now (image .entry)) (now (name .entry)) ⌝ }
 {
-    let kind = Stated { arrangement };
+    let kind = Stated {
+        sectors,
+        arrangement,
+    };
     blank::blank(image, kind, name)
 }
 
 // The number of a view with these arguments.
 #[no_mangle]
-pub extern "C" fn tandos_view_number(image: &[u8], arrangement: u32, track: u32, sector: u32) -> u32
-    ensures { λ r. ⌜ r ≡ viewNumber (stated arrangement) (now (image .entry)) track sector ⌝ }
+pub extern "C" fn tandos_view_number(
+    image: &[u8],
+    sectors: u32,
+    arrangement: u32,
+    track: u32,
+    sector: u32,
+) -> u32
+    ensures { λ r. ⌜ r ≡ viewNumber (stated sectors arrangement) (now (image .entry)) track sector ⌝ }
 {
-    let kind = Stated { arrangement };
+    let kind = Stated {
+        sectors,
+        arrangement,
+    };
     view::view_number(image, kind, track, sector)
 }
 
 // Where a view with these arguments starts in the image; C adds it to the image's address.
 #[no_mangle]
-pub extern "C" fn tandos_view_start(image: &[u8], arrangement: u32, track: u32, sector: u32) -> u32
-    ensures { λ r. ⌜ r ≡ viewPart (stated arrangement) (now (image .entry)) track sector .at ⌝ }
+pub extern "C" fn tandos_view_start(
+    image: &[u8],
+    sectors: u32,
+    arrangement: u32,
+    track: u32,
+    sector: u32,
+) -> u32
+    ensures { λ r. ⌜ r ≡ viewPart (stated sectors arrangement) (now (image .entry)) track sector .at ⌝ }
 {
-    let kind = Stated { arrangement };
+    let kind = Stated {
+        sectors,
+        arrangement,
+    };
     view::view_start(image, kind, track, sector)
 }

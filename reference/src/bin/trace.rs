@@ -6,17 +6,20 @@
 //! trace refused SEED COUNT MAX_TRACKS    runs on damaged images
 //! ```
 //!
-//! In front of these may stand `--arrangement N`, the number stated with every
-//! call: 0 plain, as without it, or 1 moved. With any other number, the images
-//! are plain and every call is refused.
+//! In front of these may stand, in either order, the two numbers stated with
+//! every call: `--sectors N`, 10 as without it, or 9; and `--arrangement N`, 0
+//! plain as without it, or 1 moved. If N is given twice, the last counts. With
+//! other numbers, or 9 and 1, the images are plain, of nine sectors if `--sectors`
+//! is 9 and else of ten, and every call is refused with 1.
 //!
 //! Fields are parted by one space. HEX is two digits a byte, upper case, and
 //! `-` for no bytes; every other field is decimal. A run begins with
 //!
 //! ```text
-//! image ARRANGEMENT HEX    the run's arrangement; the starting image, all bytes
-//! check NUMBER RULE        its check
-//! moment ...               as after each command
+//! image SECTORS ARRANGEMENT HEX    the run's two numbers; all bytes of its
+//!                                  starting image
+//! check NUMBER RULE                its check
+//! moment ...                       as after each command
 //! ```
 //!
 //! and goes on with up to twelve commands, arguments left of the `=` and
@@ -38,11 +41,12 @@
 //! NAME, OLD, NEW, SHEET and BYTES are HEX. A view's START is the position in the
 //! image of its first byte, 0 if it is refused. After each command stand the
 //! sectors of the image that it changed, with all 256 bytes after the call and
-//! ascending by sector number 10t + s - 1; that is the number on the disc, not
-//! the place in the image, which the arrangement decides. Then the moment: the
-//! image's free count, and the parts directory and files of the free-sector
-//! sum by the book of the run. `moment none` stands while the image has not
-//! been sound since the run began. An accepted blank starts the book anew.
+//! ascending by sector number SECTORS times t + s - 1; that is the number on
+//! the disc, not the place in the image, which the arrangement decides. Then the
+//! moment: the image's free count, and the parts directory and files of the
+//! free-sector sum by the book of the run. `moment none` stands while the image
+//! has not been sound since the run began. An accepted blank starts the book
+//! anew.
 //!
 //! ```text
 //! sector NUMBER HEX
@@ -57,7 +61,11 @@ use reference::history::Book;
 use std::io::{self, BufWriter, Write};
 use std::process::ExitCode;
 
-const USAGE: &str = "usage: trace [--arrangement N] [damaged|refused] SEED COUNT MAX_TRACKS";
+const USAGE: &str =
+    "usage: trace [--sectors N] [--arrangement N] [damaged|refused] SEED COUNT MAX_TRACKS";
+/// Stated unless the options say otherwise.
+const SECTORS: u32 = 10;
+const ARRANGEMENT: u32 = 0;
 const MOST_COMMANDS: usize = 12;
 
 #[derive(Clone, Copy, PartialEq, Eq)]
@@ -68,6 +76,7 @@ enum Mode {
 }
 
 struct Request {
+    sectors: u32,
     arrangement: u32,
     mode: Mode,
     seed: u64,
@@ -94,11 +103,16 @@ fn main() -> ExitCode {
     }
 }
 
-fn parse(arguments: &[String]) -> Option<Request> {
-    let (arrangement, arguments) = match arguments {
-        [word, number, rest @ ..] if word == "--arrangement" => (number.parse().ok()?, rest),
-        _ => (0, arguments),
-    };
+fn parse(mut arguments: &[String]) -> Option<Request> {
+    let (mut sectors, mut arrangement) = (SECTORS, ARRANGEMENT);
+    while let [word, number, rest @ ..] = arguments {
+        match word.as_str() {
+            "--sectors" => sectors = number.parse().ok()?,
+            "--arrangement" => arrangement = number.parse().ok()?,
+            _ => break,
+        }
+        arguments = rest;
+    }
     let (mode, numbers) = match arguments.first().map(String::as_str) {
         Some("damaged") => (Mode::Damaged, &arguments[1..]),
         Some("refused") => (Mode::Refused, &arguments[1..]),
@@ -106,6 +120,7 @@ fn parse(arguments: &[String]) -> Option<Request> {
     };
     match numbers {
         [seed, count, max_tracks] => Some(Request {
+            sectors,
             arrangement,
             mode,
             seed: seed.parse().ok()?,
@@ -118,17 +133,20 @@ fn parse(arguments: &[String]) -> Option<Request> {
 
 fn trace(request: &Request, out: &mut impl Write) -> io::Result<()> {
     let mut random = Random::new(request.seed);
-    let (max_tracks, arrangement) = (request.max_tracks, request.arrangement);
+    let max_tracks = request.max_tracks;
+    let (sectors, arrangement) = (request.sectors, request.arrangement);
     for _ in 0..request.count {
         let mut image = match request.mode {
-            Mode::Sound => sound_disc(&mut random, max_tracks, arrangement),
-            Mode::Damaged | Mode::Refused => damaged_disc(&mut random, max_tracks, arrangement),
+            Mode::Sound => sound_disc(&mut random, max_tracks, sectors, arrangement),
+            Mode::Damaged | Mode::Refused => {
+                damaged_disc(&mut random, max_tracks, sectors, arrangement)
+            }
         };
-        let checked = reference::check(&image, arrangement);
-        writeln!(out, "image {arrangement} {}", hex(&image))?;
+        let checked = reference::check(&image, sectors, arrangement);
+        writeln!(out, "image {sectors} {arrangement} {}", hex(&image))?;
         writeln!(out, "check {} {}", checked.number, checked.rule)?;
         if request.mode != Mode::Damaged {
-            run(&mut random, &mut image, arrangement, out)?;
+            run(&mut random, &mut image, sectors, arrangement, out)?;
         }
     }
     writeln!(out, "end {}", request.count)
@@ -137,20 +155,21 @@ fn trace(request: &Request, out: &mut impl Write) -> io::Result<()> {
 fn run(
     random: &mut Random,
     image: &mut [u8],
+    sectors: u32,
     arrangement: u32,
     out: &mut impl Write,
 ) -> io::Result<()> {
-    let mut book = Book::start(image, arrangement);
+    let mut book = Book::start(image, sectors, arrangement);
     print_moment(image, book.as_ref(), out)?;
     for _ in 0..random.between(1, MOST_COMMANDS) {
-        let command = command(random, image, arrangement);
-        let before = by_number(image, arrangement);
-        let answer = command.run(image, arrangement);
+        let command = command(random, image, sectors, arrangement);
+        let before = by_number(image, sectors, arrangement);
+        let answer = command.run(image, sectors, arrangement);
         writeln!(out, "{} = {}", arguments(&command), answers(&answer))?;
-        print_changes(&before, &by_number(image, arrangement), out)?;
+        print_changes(&before, &by_number(image, sectors, arrangement), out)?;
         match &mut book {
             Some(book) => book.record(&command, answer.accepted()),
-            None => book = Book::start(image, arrangement),
+            None => book = Book::start(image, sectors, arrangement),
         }
         print_moment(image, book.as_ref(), out)?;
     }
@@ -160,7 +179,7 @@ fn run(
 fn print_moment(image: &[u8], book: Option<&Book>, out: &mut impl Write) -> io::Result<()> {
     match book {
         Some(book) => {
-            let system = reference::view(image, book.arrangement(), 0, 1);
+            let system = reference::view(image, book.sectors(), book.arrangement(), 0, 1);
             // A view begins with byte 2.
             let free = u16::from_le_bytes([system[0x14 - 2], system[0x15 - 2]]);
             let (directory, files) = (book.directory(), book.file_sectors());
@@ -171,8 +190,8 @@ fn print_moment(image: &[u8], book: Option<&Book>, out: &mut impl Write) -> io::
 }
 
 /// The image with its sectors by number; as it stands if no call takes it.
-fn by_number(image: &[u8], arrangement: u32) -> Vec<u8> {
-    reference::rearranged(image, arrangement, 0).unwrap_or_else(|| image.to_vec())
+fn by_number(image: &[u8], sectors: u32, arrangement: u32) -> Vec<u8> {
+    reference::rearranged(image, sectors, arrangement, 0).unwrap_or_else(|| image.to_vec())
 }
 
 fn print_changes(before: &[u8], after: &[u8], out: &mut impl Write) -> io::Result<()> {

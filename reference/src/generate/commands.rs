@@ -1,52 +1,67 @@
 //! Commands with arguments on and across every boundary.
 
 use super::files::{capacity, module_length};
-use super::{arrangement_made, fresh_name, illegal_name, standing_names, Random};
+use super::{fresh_name, illegal_name, numbers_made, other_number, standing_names};
+use super::{Random, NINE, TEN};
 use crate::command::{Buffer, Command};
-use crate::disc::{word, FREE_COUNT};
+use crate::disc::{word, FREE_COUNT, MAX_SECTORS};
+
+/// The image that a command is made for, and the numbers that it was made with.
+#[derive(Clone, Copy)]
+struct Target<'a> {
+    image: &'a [u8],
+    sectors: u32,
+    arrangement: u32,
+}
 
 /// A list of commands made for a starting image. Each is chosen with the
 /// image before it in view, so that boundaries such as a full disc are met.
 pub fn command_list(
     random: &mut Random,
     start: &[u8],
+    sectors: u32,
     arrangement: u32,
     count: usize,
 ) -> Vec<Command> {
     let mut image = start.to_vec();
     (0..count)
         .map(|_| {
-            let command = command(random, &image, arrangement);
-            command.run(&mut image, arrangement);
+            let command = command(random, &image, sectors, arrangement);
+            command.run(&mut image, sectors, arrangement);
             command
         })
         .collect()
 }
 
 /// A command for an image of any length.
-pub fn command(random: &mut Random, image: &[u8], arrangement: u32) -> Command {
-    let arrangement = arrangement_made(arrangement);
+pub fn command(random: &mut Random, image: &[u8], sectors: u32, arrangement: u32) -> Command {
+    let (sectors, arrangement) = numbers_made(sectors, arrangement);
+    let target = Target {
+        image,
+        sectors,
+        arrangement,
+    };
     match random.below(40) {
-        0..=11 => save(random, image, arrangement),
+        0..=11 => save(random, target),
         12..=17 => Command::Delete {
-            name: name(random, image, arrangement),
+            name: name(random, target),
         },
-        18..=22 => rename(random, image, arrangement),
+        18..=22 => rename(random, target),
         23..=26 => Command::Protect {
-            name: name(random, image, arrangement),
+            name: name(random, target),
             on: random.pick(&[0, 0, 1, 0x80, 256, u32::MAX]),
         },
-        27..=32 => read(random, image, arrangement),
-        33..=35 => list(random, image, arrangement),
+        27..=32 => read(random, target),
+        33..=35 => list(random, target),
         36 => Command::Check,
         37 if random.one_in(4) => blank(random),
-        _ => view(random, image),
+        _ => view(random, target),
     }
 }
 
 /// Mostly a standing name, sometimes an absent or illegal one.
-fn name(random: &mut Random, image: &[u8], arrangement: u32) -> Vec<u8> {
-    let standing = standing_names(image, arrangement);
+fn name(random: &mut Random, target: Target<'_>) -> Vec<u8> {
+    let standing = standing_names(target.image, target.sectors, target.arrangement);
     match random.below(10) {
         0 => illegal_name(random),
         1 | 2 => fresh_name(random),
@@ -56,25 +71,25 @@ fn name(random: &mut Random, image: &[u8], arrangement: u32) -> Vec<u8> {
 }
 
 /// Mostly a name that may not stand yet.
-fn new_name(random: &mut Random, image: &[u8], arrangement: u32) -> Vec<u8> {
+fn new_name(random: &mut Random, target: Target<'_>) -> Vec<u8> {
     if random.one_in(4) {
-        name(random, image, arrangement)
+        name(random, target)
     } else {
         fresh_name(random)
     }
 }
 
-fn rename(random: &mut Random, image: &[u8], arrangement: u32) -> Command {
-    let old = name(random, image, arrangement);
+fn rename(random: &mut Random, target: Target<'_>) -> Command {
+    let old = name(random, target);
     let new = if random.one_in(8) {
         old.clone()
     } else {
-        new_name(random, image, arrangement)
+        new_name(random, target)
     };
     Command::Rename { old, new }
 }
 
-fn save(random: &mut Random, image: &[u8], arrangement: u32) -> Command {
+fn save(random: &mut Random, target: Target<'_>) -> Command {
     let start = match random.below(4) {
         0 => random.pick(&[0, 1, 0x2000, 0xFFFF, 0xFF00]),
         _ => random.draw() as u16,
@@ -83,9 +98,9 @@ fn save(random: &mut Random, image: &[u8], arrangement: u32) -> Command {
         0 => random.pick(&[8, 9, 255, 256, 263, 65_536, u32::MAX]),
         _ => random.below(8) as u32,
     };
-    let length = sheet_length(random, image, start);
+    let length = sheet_length(random, target.image, start);
     Command::Save {
-        name: new_name(random, image, arrangement),
+        name: new_name(random, target),
         page,
         start,
         transfer: random.draw() as u16,
@@ -111,7 +126,7 @@ fn exact_room(random: &mut Random, image: &[u8]) -> usize {
     let free = if image.len() < 256 {
         0
     } else {
-        usize::from(word(image, FREE_COUNT)).min(799)
+        usize::from(word(image, FREE_COUNT)).min(MAX_SECTORS - 1)
     };
     let sectors = (free + random.below(3)).max(2) - 1;
     capacity(sectors) + random.below(2)
@@ -131,15 +146,23 @@ fn buffer(random: &mut Random, exact: usize) -> Buffer {
     }
 }
 
-fn read(random: &mut Random, image: &[u8], arrangement: u32) -> Command {
-    let name = name(random, image, arrangement);
-    let reading = crate::read(image, arrangement, &name, &mut vec![0; 65_536]);
+fn read(random: &mut Random, target: Target<'_>) -> Command {
+    let name = name(random, target);
+    let mut whole = vec![0; 65_536];
+    let reading = crate::read(
+        target.image,
+        target.sectors,
+        target.arrangement,
+        &name,
+        &mut whole,
+    );
     let buffer = buffer(random, reading.length as usize);
     Command::Read { name, buffer }
 }
 
-fn list(random: &mut Random, image: &[u8], arrangement: u32) -> Command {
-    let listed = crate::list(image, arrangement, &mut vec![0; 65_536]);
+fn list(random: &mut Random, target: Target<'_>) -> Command {
+    let mut whole = vec![0; 65_536];
+    let listed = crate::list(target.image, target.sectors, target.arrangement, &mut whole);
     Command::List {
         buffer: buffer(random, listed.length as usize),
     }
@@ -161,18 +184,22 @@ fn blank(random: &mut Random) -> Command {
     }
 }
 
-fn view(random: &mut Random, image: &[u8]) -> Command {
-    let tracks = image.len() / 2560;
-    let track = random.below(tracks) as u32;
-    let sector = random.between(1, 10) as u32;
+/// Sectors 9, 10 and 11 are looked at on either disc, and so is the first track
+/// that the image would lack with the other number stated.
+fn view(random: &mut Random, target: Target<'_>) -> Command {
+    let tracks_of = |sectors: u32| (target.image.len() / 256) as u32 / sectors;
+    let tracks = tracks_of(target.sectors);
+    let tracks_of_other = tracks_of(other_number(target.sectors));
+    let track = random.below(tracks as usize) as u32;
+    let sector = random.between(1, target.sectors as usize) as u32;
     match random.below(8) {
         0 => Command::View {
-            track: random.pick(&[tracks as u32, 80, 256, track + 256, u32::MAX]),
+            track: random.pick(&[tracks, tracks_of_other, 80, 256, track + 256, u32::MAX]),
             sector,
         },
-        1 => Command::View {
+        1 | 2 => Command::View {
             track,
-            sector: random.pick(&[0, 11, 256, sector + 256, u32::MAX]),
+            sector: random.pick(&[0, NINE, TEN, TEN + 1, 256, sector + 256, u32::MAX]),
         },
         _ => Command::View { track, sector },
     }

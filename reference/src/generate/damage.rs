@@ -1,55 +1,76 @@
 //! Damaged discs: sound ones with rules broken, bytes flipped or a wrong size.
 
-use super::{arranged, sound_disc, Random, PLAIN};
+use super::{arranged, numbers_made, other_number, tracks_fitting_both};
+use super::{sound_disc, sound_disc_of, Random, PLAIN};
 use crate::directory::{self, Entry, Slot};
 use crate::disc::{put_word, word, Address, Disc, DiscMut, Sector};
 use crate::disc::{FREE_COUNT, FREE_POINTER, USED_COUNT};
 
-pub fn damaged_disc(random: &mut Random, max_tracks: usize, arrangement: u32) -> Vec<u8> {
-    let mut image = sound_disc(random, max_tracks, PLAIN);
-    damage(random, &mut image, PLAIN);
-    arranged(image, arrangement)
+pub fn damaged_disc(
+    random: &mut Random,
+    max_tracks: usize,
+    sectors: u32,
+    arrangement: u32,
+) -> Vec<u8> {
+    let (made, _) = numbers_made(sectors, arrangement);
+    let image = if random.one_in(12) {
+        disc_of_other_number(random, max_tracks.clamp(1, 80), made)
+    } else {
+        let mut image = sound_disc(random, max_tracks, made, PLAIN);
+        damage(random, &mut image, made, PLAIN);
+        image
+    };
+    arranged(image, sectors, arrangement)
+}
+
+/// A sound image, but not of the number stated. Length tells only where it
+/// doesn't fit both.
+fn disc_of_other_number(random: &mut Random, max_tracks: usize, stated: u32) -> Vec<u8> {
+    let sectors = other_number(stated);
+    let any = random.between(1, max_tracks);
+    let tracks = tracks_fitting_both(random, max_tracks, sectors).unwrap_or(any);
+    sound_disc_of(random, tracks, sectors, PLAIN)
 }
 
 /// Damages a sound image; now and then nothing comes of it.
-pub fn damage(random: &mut Random, image: &mut Vec<u8>, arrangement: u32) {
+pub fn damage(random: &mut Random, image: &mut Vec<u8>, sectors: u32, arrangement: u32) {
     match random.below(10) {
-        0 => wrong_length(random, image),
+        0 => wrong_length(random, image, sectors),
         1..=3 => {
             for _ in 0..random.between(1, 3) {
-                flip_byte(random, image, arrangement);
+                flip_byte(random, image, sectors, arrangement);
             }
         }
         4 | 5 => {
             for _ in 0..random.between(2, 3) {
                 let rule = random.between(1, 8);
-                break_rule(random, image, arrangement, rule);
+                break_rule(random, image, sectors, arrangement, rule);
             }
         }
         _ => {
             let rule = random.between(1, 8);
-            break_rule(random, image, arrangement, rule);
+            break_rule(random, image, sectors, arrangement, rule);
         }
     }
 }
 
-/// Leaves an image whose length isn't 2,560 times 1 to 80.
-pub fn wrong_length(random: &mut Random, image: &mut Vec<u8>) {
+/// Leaves an image whose length isn't that of 1 to 80 tracks.
+pub fn wrong_length(random: &mut Random, image: &mut Vec<u8>, sectors: u32) {
     let length = match random.below(5) {
         0 => 0,
         1 => image.len() - 1,
         2 => image.len() + 1,
         3 => image.len() - 256,
-        _ => 81 * 2560,
+        _ => 81 * 256 * numbers_made(sectors, PLAIN).0 as usize,
     };
     image.resize(length, 0);
 }
 
 /// Changes a byte that the check looks at: a pointer or count of the system
 /// sector, a byte of a directory sector, or a link. An image of a wrong size or
-/// arrangement is left alone.
-pub fn flip_byte(random: &mut Random, image: &mut [u8], arrangement: u32) {
-    let mut disc = match DiscMut::open(image, arrangement) {
+/// with a wrong number stated is left alone.
+pub fn flip_byte(random: &mut Random, image: &mut [u8], sectors: u32, arrangement: u32) {
+    let mut disc = match DiscMut::open(image, sectors, arrangement) {
         Ok(disc) => disc,
         Err(_) => return,
     };
@@ -71,10 +92,16 @@ pub fn flip_byte(random: &mut Random, image: &mut [u8], arrangement: u32) {
 }
 
 /// Damages an image where the rule looks. The image may stay sound if it has
-/// nothing that the rule could be broken with, and one of a wrong size or
-/// arrangement is left alone.
-pub fn break_rule(random: &mut Random, image: &mut [u8], arrangement: u32, rule: usize) {
-    let mut disc = match DiscMut::open(image, arrangement) {
+/// nothing that the rule could be broken with, and one of a wrong size or with a
+/// wrong number stated is left alone.
+pub fn break_rule(
+    random: &mut Random,
+    image: &mut [u8],
+    sectors: u32,
+    arrangement: u32,
+    rule: usize,
+) {
+    let mut disc = match DiscMut::open(image, sectors, arrangement) {
         Ok(disc) => disc,
         Err(_) => return,
     };
@@ -96,10 +123,11 @@ pub fn break_rule(random: &mut Random, image: &mut [u8], arrangement: u32, rule:
 /// 0/1, or an address just off the disc.
 fn stray(random: &mut Random, disc: Disc<'_>) -> Address {
     let tracks = disc.tracks() as u8;
+    let last = disc.format().sectors_per_track();
     let (track, sector) = match random.below(6) {
         0 => (0, 1),
-        1 => (tracks, random.between(1, 10) as u8),
-        2 => (random.below(usize::from(tracks)) as u8, 11),
+        1 => (tracks, random.between(1, last) as u8),
+        2 => (random.below(usize::from(tracks)) as u8, last as u8 + 1),
         3 => (0, 0),
         4 => (255, 1),
         _ => (0, 255),
@@ -112,7 +140,7 @@ fn elsewhere(random: &mut Random, disc: Disc<'_>) -> Address {
     if random.one_in(3) {
         return stray(random, disc);
     }
-    Sector::numbered(random.below(disc.sectors())).address()
+    disc.address(Sector::numbered(random.below(disc.sectors())))
 }
 
 fn some_of<T: Copy>(random: &mut Random, items: &[T]) -> Option<T> {
@@ -137,7 +165,7 @@ fn some_of_chain(random: &mut Random, disc: Disc<'_>, head: Address) -> Option<S
 fn redirect_directory(random: &mut Random, disc: &mut DiscMut<'_>) {
     if let Some(from) = some_directory_sector(random, disc.now()) {
         let to = match some_directory_sector(random, disc.now()) {
-            Some(sector) if random.one_in(2) => sector.address(),
+            Some(sector) if random.one_in(2) => disc.now().address(sector),
             _ => stray(random, disc.now()),
         };
         disc.put_link(from, to);

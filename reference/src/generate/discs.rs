@@ -3,29 +3,43 @@
 //! Written on its own from the layouts, without the code of the commands.
 
 use super::files::{bodies, Body};
-use super::{arranged, fresh_name, Random};
+use super::{arranged, fresh_name, numbers_made, tracks_fitting_both, Random};
 use std::collections::BTreeSet;
 
 /// A sound image of at most `max_tracks` tracks, mostly small.
-pub fn sound_disc(random: &mut Random, max_tracks: usize, arrangement: u32) -> Vec<u8> {
-    let tracks = track_count(random, max_tracks.clamp(1, 80));
-    sound_disc_of(random, tracks, arrangement)
+pub fn sound_disc(
+    random: &mut Random,
+    max_tracks: usize,
+    sectors: u32,
+    arrangement: u32,
+) -> Vec<u8> {
+    let (made, _) = numbers_made(sectors, arrangement);
+    let tracks = track_count(random, max_tracks.clamp(1, 80), made);
+    sound_disc_of(random, tracks, sectors, arrangement)
 }
 
 /// A sound image of 1 to 80 tracks.
-pub fn sound_disc_of(random: &mut Random, tracks: usize, arrangement: u32) -> Vec<u8> {
-    let mut maker = Maker::new(random, tracks);
+pub fn sound_disc_of(
+    random: &mut Random,
+    tracks: usize,
+    sectors: u32,
+    arrangement: u32,
+) -> Vec<u8> {
+    let (made, _) = numbers_made(sectors, arrangement);
+    let mut maker = Maker::new(random, tracks, made as usize);
     let slots = maker.place_directory();
     maker.place_files(&slots);
     maker.place_free_chain();
-    arranged(maker.image, arrangement)
+    arranged(maker.image, sectors, arrangement)
 }
 
-fn track_count(random: &mut Random, max_tracks: usize) -> usize {
+fn track_count(random: &mut Random, max_tracks: usize, sectors: u32) -> usize {
+    let few = random.between(1, max_tracks.min(6));
     match random.below(12) {
         0 => max_tracks,
         1 | 2 => random.between(1, max_tracks),
-        _ => random.between(1, max_tracks.min(6)),
+        3 => tracks_fitting_both(random, max_tracks, sectors).unwrap_or(few),
+        _ => few,
     }
 }
 
@@ -33,6 +47,7 @@ struct Maker<'a> {
     random: &'a mut Random,
     /// Plain.
     image: Vec<u8>,
+    sectors_per_track: usize,
     /// Numbers of the sectors not placed yet.
     pool: Vec<usize>,
     used: usize,
@@ -41,19 +56,21 @@ struct Maker<'a> {
 impl<'a> Maker<'a> {
     /// The whole image is junk at first, so that every byte the rules leave
     /// open may stand at anything.
-    fn new(random: &'a mut Random, tracks: usize) -> Maker<'a> {
+    fn new(random: &'a mut Random, tracks: usize, sectors_per_track: usize) -> Maker<'a> {
+        let sectors = tracks * sectors_per_track;
         let image = if random.one_in(3) {
-            vec![0; tracks * 2560]
+            vec![0; sectors * 256]
         } else {
-            random.bytes(tracks * 2560)
+            random.bytes(sectors * 256)
         };
-        let mut pool: Vec<usize> = (1..tracks * 10).collect();
+        let mut pool: Vec<usize> = (1..sectors).collect();
         if !random.one_in(5) {
             random.shuffle(&mut pool);
         }
         let mut maker = Maker {
             random,
             image,
+            sectors_per_track,
             pool,
             used: 0,
         };
@@ -79,7 +96,7 @@ impl<'a> Maker<'a> {
         let size = self.random.between(1, most);
         let sectors = self.take(size);
         self.link(&sectors);
-        let head = pointer(sectors[0]);
+        let head = self.pointer(sectors[0]);
         self.image[0x12..0x14].copy_from_slice(&head);
         let mut slots = Vec::new();
         for sector in sectors {
@@ -139,11 +156,13 @@ impl<'a> Maker<'a> {
         let sectors = self.take(bodies.len());
         self.link(&sectors);
         self.write_bodies(&sectors, &bodies);
+        let first = self.pointer(sectors[0]);
+        let last = self.pointer(sectors[sectors.len() - 1]);
         let entry = &mut self.image[slot..slot + 16];
         entry[..9].copy_from_slice(name);
         entry[9..11].copy_from_slice(&(sectors.len() as u16).to_le_bytes());
-        entry[11..13].copy_from_slice(&pointer(sectors[0]));
-        entry[13..15].copy_from_slice(&pointer(sectors[sectors.len() - 1]));
+        entry[11..13].copy_from_slice(&first);
+        entry[13..15].copy_from_slice(&last);
         entry[15] = if self.random.one_in(3) { 0x80 } else { 0 };
         self.image[slot / 256 * 256 + 2] += 1;
         self.used += sectors.len();
@@ -160,7 +179,7 @@ impl<'a> Maker<'a> {
         let sectors = std::mem::take(&mut self.pool);
         self.link(&sectors);
         let head = match sectors.first() {
-            Some(&first) => pointer(first),
+            Some(&first) => self.pointer(first),
             None => [0, self.random.byte()],
         };
         self.image[0x10..0x12].copy_from_slice(&head);
@@ -174,7 +193,7 @@ impl<'a> Maker<'a> {
     /// Links the sectors in order. The end link may have any track byte.
     fn link(&mut self, sectors: &[usize]) {
         for pair in sectors.windows(2) {
-            let [sector, track] = pointer(pair[1]);
+            let [sector, track] = self.pointer(pair[1]);
             self.image[pair[0] * 256..pair[0] * 256 + 2].copy_from_slice(&[track, sector]);
         }
         if let Some(last) = sectors.last() {
@@ -186,11 +205,15 @@ impl<'a> Maker<'a> {
             self.image[last * 256..last * 256 + 2].copy_from_slice(&[track, 0]);
         }
     }
-}
 
-/// Sector first, as in the system sector and in entries.
-fn pointer(number: usize) -> [u8; 2] {
-    [(number % 10 + 1) as u8, (number / 10) as u8]
+    /// Sector first, as in the system sector and in entries.
+    fn pointer(&self, number: usize) -> [u8; 2] {
+        let (track, in_track) = (
+            number / self.sectors_per_track,
+            number % self.sectors_per_track,
+        );
+        [in_track as u8 + 1, track as u8]
+    }
 }
 
 fn stored(typed: &[u8]) -> [u8; 9] {

@@ -51,10 +51,10 @@ pub fn illegal_name(random: &mut Random) -> Vec<u8> {
     name
 }
 
-/// The typed forms of the names standing on an image; none if its size or
-/// arrangement is wrong or its directory pointer leads nowhere.
-pub fn standing_names(image: &[u8], arrangement: u32) -> Vec<Vec<u8>> {
-    Disc::open(image, arrangement).map_or_else(
+/// The typed forms of the names standing on an image; none if its size or a
+/// stated number is wrong or its directory pointer leads nowhere.
+pub fn standing_names(image: &[u8], sectors: u32, arrangement: u32) -> Vec<Vec<u8>> {
+    Disc::open(image, sectors, arrangement).map_or_else(
         |_| Vec::new(),
         |disc| {
             directory::entries(disc)

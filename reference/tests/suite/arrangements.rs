@@ -3,7 +3,8 @@
 //! answer of the plain one and the moved form of its result.
 
 use crate::common::{
-    moved, moved_byte, moved_position, position, put, rule, small, MOVED, ONE_SLOT, PLAIN,
+    moved, moved_byte, moved_position, position, put, refused_by_every_call, rule, small, MOVED,
+    ONE_SLOT, PLAIN, TEN,
 };
 use reference::command::{Answer, Command};
 use reference::generate::{
@@ -11,7 +12,7 @@ use reference::generate::{
 };
 use reference::{
     blank, check, delete, list, protect, read, rearranged, rename, save, view, view_number,
-    view_start, Checked, Listed, Reading,
+    view_start, Checked,
 };
 
 /// Numbers that state no arrangement; some are 0 or 1 in their low bytes.
@@ -36,7 +37,7 @@ fn the_order_of_a_moved_image() {
     for (number, sector) in plain.chunks_mut(256).enumerate() {
         sector.fill(number as u8);
     }
-    let image = rearranged(&plain, PLAIN, MOVED).expect("a right size");
+    let image = rearranged(&plain, TEN, PLAIN, MOVED).expect("a right size");
     let numbers: Vec<u8> = image.chunks(256).map(|sector| sector[255]).collect();
     let expected = [
         0, 3, 6, 9, 2, 5, 8, 1, 4, 7, 10, 13, 16, 19, 12, 15, 18, 11, 14, 17, 20, 23, 26, 29, 22,
@@ -44,15 +45,15 @@ fn the_order_of_a_moved_image() {
     ];
     assert_eq!(numbers, expected);
     assert_eq!(image, moved(&plain));
-    assert_eq!(rearranged(&image, MOVED, PLAIN), Some(plain.clone()));
-    assert_eq!(rearranged(&image, MOVED, MOVED), Some(image.clone()));
-    assert_eq!(rearranged(&plain, PLAIN, PLAIN), Some(plain));
+    assert_eq!(rearranged(&image, TEN, MOVED, PLAIN), Some(plain.clone()));
+    assert_eq!(rearranged(&image, TEN, MOVED, MOVED), Some(image.clone()));
+    assert_eq!(rearranged(&plain, TEN, PLAIN, PLAIN), Some(plain));
 }
 
 #[test]
 fn the_order_is_within_each_track_of_80() {
     let plain = Random::new(80).bytes(80 * 2560);
-    let image = rearranged(&plain, PLAIN, MOVED).expect("a right size");
+    let image = rearranged(&plain, TEN, PLAIN, MOVED).expect("a right size");
     for track in 0..80 {
         for (place, sector) in ORDER.iter().enumerate() {
             let at = 2560 * track + 256 * place;
@@ -65,12 +66,12 @@ fn the_order_is_within_each_track_of_80() {
 #[test]
 fn only_right_sizes_and_numbers_are_rearranged() {
     for none in NONE {
-        assert_eq!(rearranged(&small(), none, PLAIN), None);
-        assert_eq!(rearranged(&small(), MOVED, none), None);
-        assert_eq!(rearranged(&small(), none, none), None);
+        assert_eq!(rearranged(&small(), TEN, none, PLAIN), None);
+        assert_eq!(rearranged(&small(), TEN, MOVED, none), None);
+        assert_eq!(rearranged(&small(), TEN, none, none), None);
     }
     for length in [0, 256, 2_559, 2_561, 207_360] {
-        assert_eq!(rearranged(&vec![0; length], PLAIN, MOVED), None);
+        assert_eq!(rearranged(&vec![0; length], TEN, PLAIN, MOVED), None);
     }
 }
 
@@ -105,19 +106,19 @@ fn moved_blank_of_one_track() {
     put(&mut expected, 1792, &[0, 5]);
     put(&mut expected, 2048, &[0, 8]);
     let mut image = vec![0xFF; 2560];
-    assert_eq!(blank(&mut image, MOVED, b"B1"), 0);
+    assert_eq!(blank(&mut image, TEN, MOVED, b"B1"), 0);
     assert_eq!(image, expected);
     assert_eq!(moved_blank(1, b"B1       ", 8), expected);
-    assert_eq!(check(&image, MOVED), Checked { number: 0, rule: 0 });
+    assert_eq!(check(&image, TEN, MOVED), Checked { number: 0, rule: 0 });
 }
 
 #[test]
 fn moved_blanks_of_more_tracks() {
     for (tracks, free) in [(2, 18), (25, 248), (40, 398), (80, 798)] {
         let mut image = vec![0xFF; tracks * 2560];
-        assert_eq!(blank(&mut image, MOVED, b"NINECHARS"), 0);
+        assert_eq!(blank(&mut image, TEN, MOVED, b"NINECHARS"), 0);
         assert!(image == moved_blank(tracks, b"NINECHARS", free), "{tracks}");
-        assert_eq!(check(&image, MOVED), Checked { number: 0, rule: 0 });
+        assert_eq!(check(&image, TEN, MOVED), Checked { number: 0, rule: 0 });
     }
 }
 
@@ -140,16 +141,19 @@ fn the_moved_piece_of_thursday() {
     put(&mut expected, 768, &[0, 0, 55]);
     put(&mut expected, 771, &sheet[245..]);
     let mut image = vec![0xEE; 40 * 2560];
-    assert_eq!(blank(&mut image, MOVED, b"PIECES"), 0);
-    assert_eq!(save(&mut image, MOVED, b"THU.PCS", 0, 0x2000, 0, &sheet), 0);
+    assert_eq!(blank(&mut image, TEN, MOVED, b"PIECES"), 0);
+    assert_eq!(
+        save(&mut image, TEN, MOVED, b"THU.PCS", 0, 0x2000, 0, &sheet),
+        0
+    );
     assert!(image == expected);
 
     let mut buffer = [0; 300];
-    let reading = read(&image, MOVED, b"THU.PCS", &mut buffer);
+    let reading = read(&image, TEN, MOVED, b"THU.PCS", &mut buffer);
     assert_eq!((reading.number, reading.end), (0, 0x212B));
     assert_eq!(buffer[..], sheet[..]);
     let mut records = [0xCC; 30];
-    assert_eq!(list(&image, MOVED, &mut records).length, 28);
+    assert_eq!(list(&image, TEN, MOVED, &mut records).length, 28);
     let listed = [
         0x01, 0x50, 0x49, 0x45, 0x43, 0x45, 0x53, 0x20, 0x20, 0x20, 0x8C, 0x01, 0x02, 0x00, 0x02,
         0x54, 0x48, 0x55, 0x20, 0x20, 0x20, 0x50, 0x43, 0x53, 0x02, 0x00, 0x00, 0x00, 0xCC, 0xCC,
@@ -162,15 +166,15 @@ fn the_other_commands_on_a_moved_image() {
     // In the moved `small`, 0/4 is at 256, ONE's 0/2 at 1792.
     let mut image = moved(&small());
     let mut expected = image.clone();
-    assert_eq!(rename(&mut image, MOVED, b"ONE", b"NEW.A"), 0);
+    assert_eq!(rename(&mut image, TEN, MOVED, b"ONE", b"NEW.A"), 0);
     put(&mut expected, 259, b"NEW   A  ");
     assert_eq!(image, expected);
-    assert_eq!(protect(&mut image, MOVED, b"NEW.A", 7), 0);
+    assert_eq!(protect(&mut image, TEN, MOVED, b"NEW.A", 7), 0);
     expected[259 + 15] = 0x80;
     assert_eq!(image, expected);
-    assert_eq!(delete(&mut image, MOVED, b"NEW.A"), 6);
-    assert_eq!(protect(&mut image, MOVED, b"NEW.A", 0), 0);
-    assert_eq!(delete(&mut image, MOVED, b"NEW.A"), 0);
+    assert_eq!(delete(&mut image, TEN, MOVED, b"NEW.A"), 6);
+    assert_eq!(protect(&mut image, TEN, MOVED, b"NEW.A", 0), 0);
+    assert_eq!(delete(&mut image, TEN, MOVED, b"NEW.A"), 0);
     put(&mut expected, 259, &[0; 16]);
     expected[258] = 1;
     put(&mut expected, 1792, &[0, 5]);
@@ -187,22 +191,22 @@ fn views_lie_at_their_places() {
         for (sector, start) in (1..=10).zip(starts) {
             let start = start + 2560 * track;
             let at = start as usize;
-            let shown = view(&image, MOVED, track, sector);
-            assert_eq!(view_number(&image, MOVED, track, sector), 0);
-            assert_eq!(view_start(&image, MOVED, track, sector), start);
+            let shown = view(&image, TEN, MOVED, track, sector);
+            assert_eq!(view_number(&image, TEN, MOVED, track, sector), 0);
+            assert_eq!(view_start(&image, TEN, MOVED, track, sector), start);
             assert_eq!(*shown, image[at..at + 254]);
             assert_eq!(shown.as_ptr(), image[at..].as_ptr());
         }
     }
-    assert_eq!(view_start(&image, MOVED, 39, 10), 100_610);
-    assert_eq!(view_start(&image, PLAIN, 39, 10), 102_146);
-    assert_eq!(view_start(&image, MOVED, 0, 7), 514);
-    assert_eq!(view_start(&image, PLAIN, 0, 7), 1_538);
+    assert_eq!(view_start(&image, TEN, MOVED, 39, 10), 100_610);
+    assert_eq!(view_start(&image, TEN, PLAIN, 39, 10), 102_146);
+    assert_eq!(view_start(&image, TEN, MOVED, 0, 7), 514);
+    assert_eq!(view_start(&image, TEN, PLAIN, 0, 7), 1_538);
     for (number, (track, sector)) in (0..40)
         .flat_map(|track| (1..=10).map(move |sector| (track, sector)))
         .enumerate()
     {
-        let start = view_start(&image, PLAIN, track, sector);
+        let start = view_start(&image, TEN, PLAIN, track, sector);
         assert_eq!(start as usize, 256 * number + 2);
     }
 }
@@ -211,65 +215,13 @@ fn views_lie_at_their_places() {
 fn refused_views_start_nowhere() {
     for arrangement in [PLAIN, MOVED] {
         for (track, sector) in [(0, 0), (0, 11), (1, 1), (256, 1), (0, 257), (u32::MAX, 1)] {
-            assert_eq!(view_number(&small(), arrangement, track, sector), 11);
-            assert_eq!(view_start(&small(), arrangement, track, sector), 0);
-            assert!(view(&small(), arrangement, track, sector).is_empty());
+            assert_eq!(view_number(&small(), TEN, arrangement, track, sector), 11);
+            assert_eq!(view_start(&small(), TEN, arrangement, track, sector), 0);
+            assert!(view(&small(), TEN, arrangement, track, sector).is_empty());
         }
         let short = &small()[1..];
-        assert_eq!(view_number(short, arrangement, 0, 1), 1);
-        assert_eq!(view_start(short, arrangement, 0, 1), 0);
-    }
-}
-
-/// That every call refuses a number with 1, whatever else is handed in, and
-/// that all lent memory stays.
-fn refused_by_every_call(image: &[u8], none: u32) {
-    assert_eq!(check(image, none), Checked { number: 1, rule: 0 });
-    for lent in [0, 41, 300] {
-        let mut buffer = vec![0xA5; lent];
-        let listed = list(image, none, &mut buffer);
-        let expected = Listed {
-            number: 1,
-            length: 0,
-        };
-        assert_eq!(listed, expected);
-        for name in [&b"ONE"[..], b"NONE", b"one", b""] {
-            let reading = read(image, none, name, &mut buffer);
-            let expected = Reading {
-                number: 1,
-                page: 0,
-                start: 0,
-                end: 0,
-                transfer: 0,
-                length: 0,
-            };
-            assert_eq!(reading, expected);
-        }
-        assert_eq!(buffer, vec![0xA5; lent]);
-    }
-    let mut lent = image.to_vec();
-    for name in [&b"NEW"[..], b"ONE", b"TWO.X", b"new", b""] {
-        for (page, length) in [(0, 1), (8, 1), (0, 0), (0, 3_000)] {
-            assert_eq!(save(&mut lent, none, name, page, 0, 0, &vec![1; length]), 1);
-        }
-        assert_eq!(delete(&mut lent, none, name), 1);
-        assert_eq!(rename(&mut lent, none, name, b"OTHER"), 1);
-        assert_eq!(rename(&mut lent, none, b"ONE", name), 1);
-        assert_eq!(protect(&mut lent, none, name, 1), 1);
-        assert_eq!(blank(&mut lent, none, name), 1);
-    }
-    assert_eq!(lent, image);
-    for (track, sector) in [
-        (0, 1),
-        (0, 7),
-        (0, 0),
-        (0, 11),
-        (1, 1),
-        (u32::MAX, u32::MAX),
-    ] {
-        assert_eq!(view_number(image, none, track, sector), 1);
-        assert_eq!(view_start(image, none, track, sector), 0);
-        assert!(view(image, none, track, sector).is_empty());
+        assert_eq!(view_number(short, TEN, arrangement, 0, 1), 1);
+        assert_eq!(view_start(short, TEN, arrangement, 0, 1), 0);
     }
 }
 
@@ -286,7 +238,7 @@ fn any_other_number_is_refused_first_of_all() {
     ];
     for image in images {
         for none in NONE {
-            refused_by_every_call(&image, none);
+            refused_by_every_call(&image, TEN, none);
         }
     }
 }
@@ -298,8 +250,8 @@ fn the_wrong_one_of_the_two_is_seen() {
     let image = moved_blank(1, b"D        ", 8);
     assert_eq!(rule(&image), 6);
     // Moved, the directory of `small` would be ONE's sector, whose byte 2 is $FF.
-    assert_eq!(check(&small(), MOVED).rule, 3);
-    assert_eq!(read(&small(), MOVED, b"ONE", &mut [0; 3]).number, 3);
+    assert_eq!(check(&small(), TEN, MOVED).rule, 3);
+    assert_eq!(read(&small(), TEN, MOVED, b"ONE", &mut [0; 3]).number, 3);
 }
 
 /// The answer that a moved image is to give: only a view starts elsewhere.
@@ -339,21 +291,21 @@ fn side_by_side(random: &mut Random, start: &[u8], commands: usize) -> usize {
     let mut accepted = 0;
     for at in 0..commands {
         let command = if at % 2 == 0 {
-            command(random, &plain, PLAIN)
+            command(random, &plain, TEN, PLAIN)
         } else {
-            command(random, &image, MOVED)
+            command(random, &image, TEN, MOVED)
         };
-        let answer = command.run(&mut plain, PLAIN);
+        let answer = command.run(&mut plain, TEN, PLAIN);
         accepted += usize::from(answer.accepted());
         assert_eq!(
-            command.run(&mut image, MOVED),
+            command.run(&mut image, TEN, MOVED),
             moved_answer(answer),
             "{command:?}"
         );
         assert!(image == moved_form(&plain), "{command:?}");
         if right_size(&plain) {
-            assert!(rearranged(&plain, PLAIN, MOVED).as_ref() == Some(&image));
-            assert!(rearranged(&image, MOVED, PLAIN).as_ref() == Some(&plain));
+            assert!(rearranged(&plain, TEN, PLAIN, MOVED).as_ref() == Some(&image));
+            assert!(rearranged(&image, TEN, MOVED, PLAIN).as_ref() == Some(&plain));
         }
     }
     accepted
@@ -364,7 +316,7 @@ fn the_claim_on_sound_discs() {
     let mut accepted = 0;
     for seed in 0..400 {
         let mut random = Random::new(seed);
-        let start = sound_disc(&mut random, 5, PLAIN);
+        let start = sound_disc(&mut random, 5, TEN, PLAIN);
         accepted += side_by_side(&mut random, &start, 24);
     }
     assert!(accepted > 4000, "only {accepted} commands were accepted");
@@ -374,7 +326,7 @@ fn the_claim_on_sound_discs() {
 fn the_claim_on_damaged_discs() {
     for seed in 0..800 {
         let mut random = Random::new(seed);
-        let start = damaged_disc(&mut random, 5, PLAIN);
+        let start = damaged_disc(&mut random, 5, TEN, PLAIN);
         side_by_side(&mut random, &start, 10);
     }
 }
@@ -391,7 +343,7 @@ fn the_claim_on_arbitrary_bytes() {
         }
         if seed % 2 == 1 {
             // The bytes are the moved image, and its plain form is the start.
-            let plain = rearranged(&start, MOVED, PLAIN).expect("a right size");
+            let plain = rearranged(&start, TEN, MOVED, PLAIN).expect("a right size");
             assert_eq!(moved(&plain), start);
             start = plain;
         }
@@ -403,14 +355,14 @@ fn the_claim_on_arbitrary_bytes() {
 fn the_claim_on_the_largest_disc() {
     let mut random = Random::new(9);
     let mut start = vec![0; 80 * 2560];
-    assert_eq!(blank(&mut start, PLAIN, b"BIG"), 0);
+    assert_eq!(blank(&mut start, TEN, PLAIN, b"BIG"), 0);
     assert!(side_by_side(&mut random, &start, 120) > 20);
 }
 
 /// Every view of an image, in either arrangement.
 fn views(image: &[u8], arrangement: u32) -> Vec<&[u8]> {
     (1..=10)
-        .map(|sector| view(image, arrangement, 0, sector))
+        .map(|sector| view(image, TEN, arrangement, 0, sector))
         .collect()
 }
 
@@ -423,21 +375,21 @@ fn a_damaged_byte_on_both() {
             plain[at] ^= change;
             let mut image = moved(&small());
             image[moved_byte(at)] ^= change;
-            let checked = check(&plain, PLAIN);
-            assert_eq!(check(&image, MOVED), checked, "{at}");
+            let checked = check(&plain, TEN, PLAIN);
+            assert_eq!(check(&image, TEN, MOVED), checked, "{at}");
             rules[checked.rule as usize] += 1;
             assert_eq!(views(&image, MOVED), views(&plain, PLAIN), "{at}");
             for name in [&b"ONE"[..], b"TWO.X"] {
                 let (mut one, mut other) = ([0; 246], [0; 246]);
                 assert_eq!(
-                    read(&image, MOVED, name, &mut one),
-                    read(&plain, PLAIN, name, &mut other)
+                    read(&image, TEN, MOVED, name, &mut one),
+                    read(&plain, TEN, PLAIN, name, &mut other)
                 );
                 assert_eq!(one, other, "{at}");
             }
             let sheet = [3; 300];
-            let saved = save(&mut plain, PLAIN, b"NEW", 0, 0, 0, &sheet);
-            assert_eq!(save(&mut image, MOVED, b"NEW", 0, 0, 0, &sheet), saved);
+            let saved = save(&mut plain, TEN, PLAIN, b"NEW", 0, 0, 0, &sheet);
+            assert_eq!(save(&mut image, TEN, MOVED, b"NEW", 0, 0, 0, &sheet), saved);
             assert_eq!(image, moved(&plain), "{at}");
         }
     }
@@ -450,12 +402,15 @@ fn a_damaged_byte_on_both() {
 #[test]
 fn generated_discs_of_a_seed_are_each_other_s_form() {
     for seed in 0..300 {
-        let make = |arrangement| sound_disc(&mut Random::new(seed), 6, arrangement);
+        let make = |arrangement| sound_disc(&mut Random::new(seed), 6, TEN, arrangement);
         assert!(make(MOVED) == moved(&make(PLAIN)), "seed {seed}");
         assert!(make(2) == make(PLAIN), "seed {seed}");
-        let make = |arrangement| damaged_disc(&mut Random::new(seed), 6, arrangement);
+        let make = |arrangement| damaged_disc(&mut Random::new(seed), 6, TEN, arrangement);
         assert!(make(MOVED) == moved_form(&make(PLAIN)), "seed {seed}");
-        assert_eq!(check(&make(MOVED), MOVED), check(&make(PLAIN), PLAIN));
+        assert_eq!(
+            check(&make(MOVED), TEN, MOVED),
+            check(&make(PLAIN), TEN, PLAIN)
+        );
     }
 }
 
@@ -464,11 +419,17 @@ fn damage_finds_its_place_on_a_moved_disc() {
     for seed in 0..600 {
         let make = |arrangement| {
             let mut random = Random::new(seed);
-            let mut image = sound_disc(&mut random, 5, arrangement);
+            let mut image = sound_disc(&mut random, 5, TEN, arrangement);
             match seed % 3 {
-                0 => flip_byte(&mut random, &mut image, arrangement),
-                1 => break_rule(&mut random, &mut image, arrangement, seed as usize % 8 + 1),
-                _ => damage(&mut random, &mut image, arrangement),
+                0 => flip_byte(&mut random, &mut image, TEN, arrangement),
+                1 => break_rule(
+                    &mut random,
+                    &mut image,
+                    TEN,
+                    arrangement,
+                    seed as usize % 8 + 1,
+                ),
+                _ => damage(&mut random, &mut image, TEN, arrangement),
             }
             image
         };
@@ -484,8 +445,8 @@ fn commands_of_a_seed_are_the_same() {
     for seed in 0..200 {
         let make = |arrangement| -> Vec<Command> {
             let mut random = Random::new(seed);
-            let start = sound_disc(&mut random, 4, arrangement);
-            reference::generate::command_list(&mut random, &start, arrangement, 10)
+            let start = sound_disc(&mut random, 4, TEN, arrangement);
+            reference::generate::command_list(&mut random, &start, TEN, arrangement, 10)
         };
         assert_eq!(make(PLAIN), make(MOVED), "seed {seed}");
     }

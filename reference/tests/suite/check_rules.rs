@@ -1,6 +1,6 @@
 //! Each rule of the check broken alone, and the lowest of several reported.
 
-use crate::common::{link, position, put, rule, small, DIRECTORY, ONE_SLOT, PLAIN, TWO_SLOT};
+use crate::common::{link, position, put, rule, small, DIRECTORY, ONE_SLOT, PLAIN, TEN, TWO_SLOT};
 use reference::{check, Checked};
 
 /// The rule reported after bytes of `small` are overwritten.
@@ -109,7 +109,7 @@ fn rule_4_across_directory_sectors() {
 
 #[test]
 fn rule_5_first_and_last_sector() {
-    // Wrong sector, off the disc, none, 0/1, and a right sector turned round.
+    // Wrong sector, off the disc, TEN, none, 0/1, and a right sector turned round.
     for first in [
         [5, 0],
         [11, 0],
@@ -283,10 +283,14 @@ fn an_empty_free_chain_may_have_any_track_byte() {
 fn the_check_refuses_wrong_sizes_only() {
     let refused = Checked { number: 1, rule: 0 };
     for length in [0, 1, 256, 2_559, 2_561, 2_816, 204_799, 204_801, 207_360] {
-        assert_eq!(check(&vec![0; length], PLAIN), refused, "{length}");
+        assert_eq!(check(&vec![0; length], TEN, PLAIN), refused, "{length}");
     }
     for tracks in 1..=80 {
         let broken = Checked { number: 0, rule: 1 };
-        assert_eq!(check(&vec![0; 2_560 * tracks], PLAIN), broken, "{tracks}");
+        assert_eq!(
+            check(&vec![0; 2_560 * tracks], TEN, PLAIN),
+            broken,
+            "{tracks}"
+        );
     }
 }

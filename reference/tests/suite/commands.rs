@@ -1,6 +1,6 @@
 //! What each command writes, as whole images made by hand.
 
-use crate::common::{link, position, put, rule, small, DIRECTORY, ONE_SLOT, PLAIN, TWO_SLOT};
+use crate::common::{link, position, put, rule, small, DIRECTORY, ONE_SLOT, PLAIN, TEN, TWO_SLOT};
 use reference::{blank, delete, list, protect, read, rename, save, view, view_number, Reading};
 
 #[test]
@@ -13,7 +13,7 @@ fn blank_of_one_track() {
         link(&mut expected, (0, from), (0, to));
     }
     let mut image = vec![0xFF; 2560];
-    assert_eq!(blank(&mut image, PLAIN, b"B1"), 0);
+    assert_eq!(blank(&mut image, TEN, PLAIN, b"B1"), 0);
     assert_eq!(image, expected);
 }
 
@@ -39,7 +39,7 @@ fn blank_of_80_tracks() {
     link(&mut expected, (0, 1), (0, 0));
     link(&mut expected, (0, 4), (0, 0));
     let mut image = vec![0xFF; 80 * 2560];
-    assert_eq!(blank(&mut image, PLAIN, b"NINECHARS"), 0);
+    assert_eq!(blank(&mut image, TEN, PLAIN, b"NINECHARS"), 0);
     assert!(image == expected);
     assert_eq!(rule(&image), 0);
 }
@@ -47,10 +47,10 @@ fn blank_of_80_tracks() {
 #[test]
 fn blank_names() {
     for name in [&b"A"[..], b"0", b"ABCDEFGHI", b"Z9"] {
-        assert_eq!(blank(&mut vec![1; 2560], PLAIN, name), 0, "{name:?}");
+        assert_eq!(blank(&mut vec![1; 2560], TEN, PLAIN, name), 0, "{name:?}");
     }
     for name in [&b""[..], b"TENCHARS10", b"A.B", b"a", b"A ", b" A", b"\0"] {
-        assert_eq!(blank(&mut vec![1; 2560], PLAIN, name), 2, "{name:?}");
+        assert_eq!(blank(&mut vec![1; 2560], TEN, PLAIN, name), 2, "{name:?}");
     }
 }
 
@@ -76,7 +76,7 @@ fn save_takes_the_head_of_the_free_chain() {
     put(&mut expected, position(0, 7) + 3, &sheet[245..]);
     expected[position(0, 7) + 58..position(0, 8)].fill(0);
     assert_eq!(
-        save(&mut image, PLAIN, b"NEW.A1", 7, 0xFED4, 0xABCD, &sheet),
+        save(&mut image, TEN, PLAIN, b"NEW.A1", 7, 0xFED4, 0xABCD, &sheet),
         0
     );
     assert_eq!(image, expected);
@@ -106,9 +106,9 @@ fn save_that_empties_the_free_chain() {
         put(&mut expected, at, &[0, next, 253]);
         expected[at + 3..at + 256].fill(6);
     }
-    assert_eq!(save(&mut image, PLAIN, b"ALL", 0, 0, 0, &[6; 1257]), 0);
+    assert_eq!(save(&mut image, TEN, PLAIN, b"ALL", 0, 0, 0, &[6; 1257]), 0);
     assert_eq!(image, expected);
-    assert_eq!(save(&mut image, PLAIN, b"MORE", 0, 0, 0, &[6]), 8);
+    assert_eq!(save(&mut image, TEN, PLAIN, b"MORE", 0, 0, 0, &[6]), 8);
     assert_eq!(image, expected);
 }
 
@@ -163,7 +163,7 @@ fn save_grows_the_directory_after_the_module() {
     );
     expected[position(1, 10) + 11..position(2, 1)].fill(3);
     put(&mut expected, position(1, 9), &[0, 0, 1, 3]);
-    assert_eq!(save(&mut image, PLAIN, b"G", 0, 0x10, 0, &[3; 246]), 0);
+    assert_eq!(save(&mut image, TEN, PLAIN, b"G", 0, 0x10, 0, &[3; 246]), 0);
     assert_eq!(image, expected);
     assert_eq!(rule(&image), 0);
 }
@@ -176,10 +176,10 @@ fn delete_frees_the_chain_in_front() {
     expected[DIRECTORY + 2] = 1;
     link(&mut expected, (0, 2), (0, 5));
     put(&mut expected, 0x10, &[2, 0, 4, 0, 6, 0, 2, 0]);
-    assert_eq!(delete(&mut image, PLAIN, b"ONE"), 0);
+    assert_eq!(delete(&mut image, TEN, PLAIN, b"ONE"), 0);
     assert_eq!(image, expected);
     image[TWO_SLOT + 15] = 0;
-    assert_eq!(delete(&mut image, PLAIN, b"TWO.X"), 0);
+    assert_eq!(delete(&mut image, TEN, PLAIN, b"TWO.X"), 0);
     put(&mut expected, TWO_SLOT, &[0; 16]);
     expected[DIRECTORY + 2] = 0;
     link(&mut expected, (0, 6), (0, 2));
@@ -200,21 +200,21 @@ fn delete_on_a_full_disc_writes_a_zero_link() {
     expected[DIRECTORY + 2] = 1;
     link(&mut expected, (0, 10), (0, 0));
     put(&mut expected, 0x10, &[3, 0, 4, 0, 7, 0, 1, 0]);
-    assert_eq!(delete(&mut image, PLAIN, b"TWO.X"), 0);
+    assert_eq!(delete(&mut image, TEN, PLAIN, b"TWO.X"), 0);
     assert_eq!(image, expected);
 }
 
 #[test]
 fn an_emptied_directory_sector_stays() {
     let mut image = full_directory();
-    assert_eq!(save(&mut image, PLAIN, b"G", 0, 0, 0, &[1]), 0);
+    assert_eq!(save(&mut image, TEN, PLAIN, b"G", 0, 0, 0, &[1]), 0);
     // G is in 1/10, its directory sector in 1/9.
-    assert_eq!(delete(&mut image, PLAIN, b"G"), 0);
+    assert_eq!(delete(&mut image, TEN, PLAIN, b"G"), 0);
     assert_eq!(image[position(0, 4)..position(0, 4) + 2], [1, 9]);
     assert_eq!(image[position(1, 9)..position(1, 9) + 19], [0; 19]);
     assert_eq!(image[0x10..0x18], [10, 1, 4, 0, 10, 0, 17, 0]);
     assert_eq!(rule(&image), 0);
-    assert_eq!(save(&mut image, PLAIN, b"H", 0, 0, 0, &[1]), 0);
+    assert_eq!(save(&mut image, TEN, PLAIN, b"H", 0, 0, 0, &[1]), 0);
     assert_eq!(image[position(1, 9) + 2..position(1, 9) + 4], [1, b'H']);
     assert_eq!(image[0x14], 9);
 }
@@ -224,10 +224,10 @@ fn rename_changes_nine_bytes() {
     let mut image = small();
     let mut expected = small();
     put(&mut expected, ONE_SLOT, b"ABCDEFXYZ");
-    assert_eq!(rename(&mut image, PLAIN, b"ONE", b"ABCDEF.XYZ"), 0);
+    assert_eq!(rename(&mut image, TEN, PLAIN, b"ONE", b"ABCDEF.XYZ"), 0);
     assert_eq!(image, expected);
     put(&mut expected, ONE_SLOT, b"Q        ");
-    assert_eq!(rename(&mut image, PLAIN, b"ABCDEF.XYZ", b"Q"), 0);
+    assert_eq!(rename(&mut image, TEN, PLAIN, b"ABCDEF.XYZ", b"Q"), 0);
     assert_eq!(image, expected);
 }
 
@@ -237,23 +237,23 @@ fn protect_on_and_off() {
         let mut image = small();
         let mut expected = small();
         expected[ONE_SLOT + 15] = 0x80;
-        assert_eq!(protect(&mut image, PLAIN, b"ONE", on), 0);
+        assert_eq!(protect(&mut image, TEN, PLAIN, b"ONE", on), 0);
         assert_eq!(image, expected, "{on}");
-        assert_eq!(protect(&mut image, PLAIN, b"ONE", on), 0);
+        assert_eq!(protect(&mut image, TEN, PLAIN, b"ONE", on), 0);
         assert_eq!(image, expected, "{on}");
-        assert_eq!(protect(&mut image, PLAIN, b"ONE", 0), 0);
+        assert_eq!(protect(&mut image, TEN, PLAIN, b"ONE", 0), 0);
         assert_eq!(image, small(), "{on}");
     }
     let mut image = small();
-    assert_eq!(protect(&mut image, PLAIN, b"ONE", 0), 0);
-    assert_eq!(protect(&mut image, PLAIN, b"TWO.X", 7), 0);
+    assert_eq!(protect(&mut image, TEN, PLAIN, b"ONE", 0), 0);
+    assert_eq!(protect(&mut image, TEN, PLAIN, b"TWO.X", 7), 0);
     assert_eq!(image, small());
 }
 
 #[test]
 fn read_gives_the_module() {
     let mut buffer = [0xEE; 5];
-    let reading = read(&small(), PLAIN, b"ONE", &mut buffer);
+    let reading = read(&small(), TEN, PLAIN, b"ONE", &mut buffer);
     let expected = Reading {
         number: 0,
         page: 3,
@@ -270,17 +270,20 @@ fn read_gives_the_module() {
 fn read_of_a_whole_page() {
     let sheet: Vec<u8> = (0..65_536_u32).map(|at| (at * 7 / 3) as u8).collect();
     let mut image = vec![0; 35 * 2560];
-    assert_eq!(blank(&mut image, PLAIN, b"D"), 0);
-    assert_eq!(save(&mut image, PLAIN, b"PAGE", 0, 1, 0, &sheet), 7);
-    assert_eq!(save(&mut image, PLAIN, b"PAGE", 0, 0, 0xFFFF, &sheet), 0);
+    assert_eq!(blank(&mut image, TEN, PLAIN, b"D"), 0);
+    assert_eq!(save(&mut image, TEN, PLAIN, b"PAGE", 0, 1, 0, &sheet), 7);
+    assert_eq!(
+        save(&mut image, TEN, PLAIN, b"PAGE", 0, 0, 0xFFFF, &sheet),
+        0
+    );
     let mut buffer = vec![0; 65_540];
-    let reading = read(&image, PLAIN, b"PAGE", &mut buffer);
+    let reading = read(&image, TEN, PLAIN, b"PAGE", &mut buffer);
     assert_eq!((reading.start, reading.end), (0, 0xFFFF));
     assert_eq!((reading.transfer, reading.length), (0xFFFF, 65_536));
     assert!(buffer[..65_536] == sheet[..]);
     assert_eq!(buffer[65_536..], [0; 4]);
     assert_eq!(
-        read(&image, PLAIN, b"PAGE", &mut buffer[..65_535]).number,
+        read(&image, TEN, PLAIN, b"PAGE", &mut buffer[..65_535]).number,
         10
     );
 }
@@ -288,9 +291,12 @@ fn read_of_a_whole_page() {
 #[test]
 fn save_at_the_top_of_memory() {
     let mut image = small();
-    assert_eq!(save(&mut image, PLAIN, b"TOP", 0, 0xFFFF, 0, &[1, 2]), 7);
-    assert_eq!(save(&mut image, PLAIN, b"TOP", 0, 0xFFFF, 0, &[1]), 0);
-    let reading = read(&image, PLAIN, b"TOP", &mut [0]);
+    assert_eq!(
+        save(&mut image, TEN, PLAIN, b"TOP", 0, 0xFFFF, 0, &[1, 2]),
+        7
+    );
+    assert_eq!(save(&mut image, TEN, PLAIN, b"TOP", 0, 0xFFFF, 0, &[1]), 0);
+    let reading = read(&image, TEN, PLAIN, b"TOP", &mut [0]);
     assert_eq!(
         (reading.start, reading.end, reading.length),
         (0xFFFF, 0xFFFF, 1)
@@ -300,7 +306,7 @@ fn save_at_the_top_of_memory() {
 #[test]
 fn list_is_in_directory_order() {
     let mut buffer = [0xCC; 45];
-    let listed = list(&small(), PLAIN, &mut buffer);
+    let listed = list(&small(), TEN, PLAIN, &mut buffer);
     assert_eq!((listed.number, listed.length), (0, 41));
     let mut expected = Vec::new();
     expected.extend(b"\x01BENCH    \x05\x00\x03\x00");
@@ -322,8 +328,8 @@ fn view_of_every_sector() {
         .flat_map(|track| (1..=10).map(move |sector| (track, sector)))
         .enumerate()
     {
-        let bytes = view(&image, PLAIN, track, sector);
-        assert_eq!(view_number(&image, PLAIN, track, sector), 0);
+        let bytes = view(&image, TEN, PLAIN, track, sector);
+        assert_eq!(view_number(&image, TEN, PLAIN, track, sector), 0);
         assert_eq!(bytes.len(), 254);
         assert_eq!((bytes[0], bytes[1], bytes[253]), (100, number as u8, 200));
         assert_eq!(bytes.as_ptr(), image[number * 256 + 2..].as_ptr());

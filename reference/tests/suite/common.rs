@@ -1,8 +1,22 @@
-//! Images written by hand from the layouts, byte by byte. They are plain.
+//! Images written by hand from the layouts, byte by byte. They are plain and
+//! have ten sectors a track.
+
+use reference::history::Book;
+use reference::{
+    blank, check, delete, list, protect, read, rename, save, view, view_number, view_start,
+    Checked, Listed, Reading,
+};
+
+/// The numbers of sectors a track.
+pub const NINE: u32 = 9;
+pub const TEN: u32 = 10;
 
 /// The numbers of the two arrangements.
 pub const PLAIN: u32 = 0;
 pub const MOVED: u32 = 1;
+
+/// The numbers that may be stated together.
+pub const FORMATS: [(u32, u32); 3] = [(TEN, PLAIN), (TEN, MOVED), (NINE, PLAIN)];
 
 /// Where track t, sector s starts in the image.
 pub fn position(track: usize, sector: usize) -> usize {
@@ -87,7 +101,75 @@ pub fn small() -> Vec<u8> {
 
 /// The rule that the check reports for an image of a right size.
 pub fn rule(image: &[u8]) -> u32 {
-    let checked = reference::check(image, PLAIN);
+    rule_of(image, TEN)
+}
+
+/// The same for a plain image of either number.
+pub fn rule_of(image: &[u8], sectors: u32) -> u32 {
+    let checked = check(image, sectors, PLAIN);
     assert_eq!(checked.number, 0);
     checked.rule
+}
+
+/// That every call refuses the stated numbers with 1, whatever else is handed
+/// in, and that all lent memory stays.
+pub fn refused_by_every_call(image: &[u8], sectors: u32, arrangement: u32) {
+    let refused = Checked { number: 1, rule: 0 };
+    assert_eq!(check(image, sectors, arrangement), refused);
+    assert!(Book::start(image, sectors, arrangement).is_none());
+    for lent in [0, 41, 300] {
+        refused_with_a_buffer(image, sectors, arrangement, lent);
+    }
+    refused_by_writing_calls(image, sectors, arrangement);
+    for (track, sector) in [
+        (0, 1),
+        (0, 7),
+        (0, 0),
+        (0, 11),
+        (1, 1),
+        (u32::MAX, u32::MAX),
+    ] {
+        assert_eq!(view_number(image, sectors, arrangement, track, sector), 1);
+        assert_eq!(view_start(image, sectors, arrangement, track, sector), 0);
+        assert!(view(image, sectors, arrangement, track, sector).is_empty());
+    }
+}
+
+fn refused_with_a_buffer(image: &[u8], sectors: u32, arrangement: u32, lent: usize) {
+    let mut buffer = vec![0xA5; lent];
+    let listed = Listed {
+        number: 1,
+        length: 0,
+    };
+    assert_eq!(list(image, sectors, arrangement, &mut buffer), listed);
+    let reading = Reading {
+        number: 1,
+        page: 0,
+        start: 0,
+        end: 0,
+        transfer: 0,
+        length: 0,
+    };
+    for name in [&b"ONE"[..], b"NONE", b"one", b""] {
+        let answer = read(image, sectors, arrangement, name, &mut buffer);
+        assert_eq!(answer, reading);
+    }
+    assert_eq!(buffer, vec![0xA5; lent]);
+}
+
+fn refused_by_writing_calls(image: &[u8], sectors: u32, arrangement: u32) {
+    let mut lent = image.to_vec();
+    for name in [&b"NEW"[..], b"ONE", b"TWO.X", b"new", b""] {
+        for (page, length) in [(0, 1), (8, 1), (0, 0), (0, 3_000)] {
+            let sheet = vec![1; length];
+            let saved = save(&mut lent, sectors, arrangement, name, page, 0, 0, &sheet);
+            assert_eq!(saved, 1);
+        }
+        assert_eq!(delete(&mut lent, sectors, arrangement, name), 1);
+        assert_eq!(rename(&mut lent, sectors, arrangement, name, b"OTHER"), 1);
+        assert_eq!(rename(&mut lent, sectors, arrangement, b"ONE", name), 1);
+        assert_eq!(protect(&mut lent, sectors, arrangement, name, 1), 1);
+        assert_eq!(blank(&mut lent, sectors, arrangement, name), 1);
+    }
+    assert_eq!(lent, image);
 }

@@ -1,6 +1,6 @@
 //! The examples on the boundaries, and the slips to guard against.
 
-use crate::common::{link, position, put, rule, small, ONE_SLOT, PLAIN};
+use crate::common::{link, position, put, rule, small, ONE_SLOT, PLAIN, TEN};
 use reference::{blank, check, delete, list, read, rename, save, view, view_number};
 
 const THU_ENTRY: [u8; 16] = [
@@ -9,7 +9,7 @@ const THU_ENTRY: [u8; 16] = [
 
 fn blank_disc(tracks: usize, name: &[u8]) -> Vec<u8> {
     let mut image = vec![0xEE; tracks * 2560];
-    assert_eq!(blank(&mut image, PLAIN, name), 0);
+    assert_eq!(blank(&mut image, TEN, PLAIN, name), 0);
     image
 }
 
@@ -20,14 +20,17 @@ fn free_count(image: &[u8]) -> u16 {
 /// Saves one byte under a name and gives the first slot's name bytes.
 fn stored_name(typed: &[u8]) -> Vec<u8> {
     let mut image = blank_disc(1, b"D");
-    assert_eq!(save(&mut image, PLAIN, typed, 0, 0, 0, &[1]), 0);
+    assert_eq!(save(&mut image, TEN, PLAIN, typed, 0, 0, 0, &[1]), 0);
     image[position(0, 4) + 3..position(0, 4) + 12].to_vec()
 }
 
 /// How many sectors a saved module of this length takes by the used count.
 fn sectors_of(length: usize) -> u16 {
     let mut image = blank_disc(40, b"D");
-    assert_eq!(save(&mut image, PLAIN, b"F", 0, 0, 0, &vec![9; length]), 0);
+    assert_eq!(
+        save(&mut image, TEN, PLAIN, b"F", 0, 0, 0, &vec![9; length]),
+        0
+    );
     u16::from_le_bytes([image[0x16], image[0x17]])
 }
 
@@ -57,7 +60,11 @@ fn illegal_names_give_2() {
     ];
     for text in texts {
         let mut image = blank_disc(1, b"D");
-        assert_eq!(save(&mut image, PLAIN, text, 0, 0, 0, &[1]), 2, "{text:?}");
+        assert_eq!(
+            save(&mut image, TEN, PLAIN, text, 0, 0, 0, &[1]),
+            2,
+            "{text:?}"
+        );
     }
 }
 
@@ -83,14 +90,14 @@ fn sectors_start_where_the_paper_says() {
     let mut image = vec![0; 40 * 2560];
     image[1_536 + 2] = 0x77;
     image[102_144 + 255] = 0x99;
-    assert_eq!(view(&image, PLAIN, 0, 7)[0], 0x77);
-    assert_eq!(view(&image, PLAIN, 39, 10)[253], 0x99);
-    assert_eq!(view(&image, PLAIN, 39, 10).len(), 254);
+    assert_eq!(view(&image, TEN, PLAIN, 0, 7)[0], 0x77);
+    assert_eq!(view(&image, TEN, PLAIN, 39, 10)[253], 0x99);
+    assert_eq!(view(&image, TEN, PLAIN, 39, 10).len(), 254);
     assert_eq!(
-        view(&image, PLAIN, 39, 10).as_ptr(),
+        view(&image, TEN, PLAIN, 39, 10).as_ptr(),
         image[102_146..].as_ptr()
     );
-    assert_eq!(view_number(&image, PLAIN, 39, 10), 0);
+    assert_eq!(view_number(&image, TEN, PLAIN, 39, 10), 0);
 }
 
 #[test]
@@ -103,9 +110,9 @@ fn free_sectors_of_blank_discs() {
 #[test]
 fn one_track_holds_2016_bytes() {
     let mut image = blank_disc(1, b"D");
-    assert_eq!(save(&mut image, PLAIN, b"F", 0, 0, 0, &[5; 2_017]), 8);
+    assert_eq!(save(&mut image, TEN, PLAIN, b"F", 0, 0, 0, &[5; 2_017]), 8);
     assert_eq!(image, blank_disc(1, b"D"));
-    assert_eq!(save(&mut image, PLAIN, b"F", 0, 0, 0, &[5; 2_016]), 0);
+    assert_eq!(save(&mut image, TEN, PLAIN, b"F", 0, 0, 0, &[5; 2_016]), 0);
     assert_eq!(free_count(&image), 0);
     assert_eq!(image[0x10..0x12], [0, 0]);
     assert_eq!(rule(&image), 0);
@@ -140,7 +147,10 @@ fn free_chain_of_a_blank_disc() {
 fn the_piece_of_thursday() {
     let mut image = blank_disc(40, b"PIECES");
     let sheet: Vec<u8> = (0..300).map(|at| (at % 251) as u8).collect();
-    assert_eq!(save(&mut image, PLAIN, b"THU.PCS", 0, 0x2000, 0, &sheet), 0);
+    assert_eq!(
+        save(&mut image, TEN, PLAIN, b"THU.PCS", 0, 0x2000, 0, &sheet),
+        0
+    );
     assert_eq!(image[0x10..0x12], [3, 0]);
     let slot = position(0, 4) + 3;
     assert_eq!(image[slot..slot + 16], THU_ENTRY);
@@ -153,7 +163,10 @@ fn the_piece_of_thursday() {
     assert_eq!(image[second + 3..second + 58], sheet[245..]);
     assert_eq!(image[second + 58..second + 256], [0; 198]);
     let mut buffer = [0; 300];
-    assert_eq!(read(&image, PLAIN, b"THU.PCS", &mut buffer).end, 0x212B);
+    assert_eq!(
+        read(&image, TEN, PLAIN, b"THU.PCS", &mut buffer).end,
+        0x212B
+    );
     assert_eq!(buffer[..], sheet[..]);
 }
 
@@ -161,11 +174,11 @@ fn the_piece_of_thursday() {
 fn the_whole_list_is_28_bytes() {
     let mut image = blank_disc(40, b"PIECES");
     assert_eq!(
-        save(&mut image, PLAIN, b"THU.PCS", 0, 0x2000, 0, &[1; 300]),
+        save(&mut image, TEN, PLAIN, b"THU.PCS", 0, 0x2000, 0, &[1; 300]),
         0
     );
     let mut buffer = [0xCC; 30];
-    let listed = list(&image, PLAIN, &mut buffer);
+    let listed = list(&image, TEN, PLAIN, &mut buffer);
     assert_eq!((listed.number, listed.length), (0, 28));
     let expected = [
         0x01, 0x50, 0x49, 0x45, 0x43, 0x45, 0x53, 0x20, 0x20, 0x20, 0x8C, 0x01, 0x02, 0x00, 0x02,
@@ -179,7 +192,10 @@ fn with_files(tracks: usize, files: usize) -> Vec<u8> {
     let mut image = blank_disc(tracks, b"D");
     for file in 0..files {
         let name = format!("F{file:02}");
-        assert_eq!(save(&mut image, PLAIN, name.as_bytes(), 0, 0, 0, &[1]), 0);
+        assert_eq!(
+            save(&mut image, TEN, PLAIN, name.as_bytes(), 0, 0, 0, &[1]),
+            0
+        );
     }
     image
 }
@@ -188,12 +204,12 @@ fn with_files(tracks: usize, files: usize) -> Vec<u8> {
 fn the_sixteenth_file_needs_a_directory_sector() {
     let mut image = with_files(4, 14);
     assert_eq!(free_count(&image), 38 - 14);
-    assert_eq!(save(&mut image, PLAIN, b"F14", 0, 0, 0, &[1]), 0);
+    assert_eq!(save(&mut image, TEN, PLAIN, b"F14", 0, 0, 0, &[1]), 0);
     assert_eq!(free_count(&image), 38 - 15);
-    assert_eq!(save(&mut image, PLAIN, b"F15", 0, 0, 0, &[1]), 0);
+    assert_eq!(save(&mut image, TEN, PLAIN, b"F15", 0, 0, 0, &[1]), 0);
     assert_eq!(free_count(&image), 38 - 17);
-    assert_eq!(delete(&mut image, PLAIN, b"F03"), 0);
-    assert_eq!(save(&mut image, PLAIN, b"G", 0, 0, 0, &[1]), 0);
+    assert_eq!(delete(&mut image, TEN, PLAIN, b"F03"), 0);
+    assert_eq!(save(&mut image, TEN, PLAIN, b"G", 0, 0, 0, &[1]), 0);
     assert_eq!(free_count(&image), 38 - 17);
     assert_eq!(rule(&image), 0);
 }
@@ -201,8 +217,8 @@ fn the_sixteenth_file_needs_a_directory_sector() {
 #[test]
 fn rename_to_its_own_name() {
     let mut image = small();
-    assert_eq!(rename(&mut image, PLAIN, b"ONE", b"ONE"), 5);
-    assert_eq!(rename(&mut image, PLAIN, b"TWO.X", b"TWO.X"), 6);
+    assert_eq!(rename(&mut image, TEN, PLAIN, b"ONE", b"ONE"), 5);
+    assert_eq!(rename(&mut image, TEN, PLAIN, b"TWO.X", b"TWO.X"), 6);
     assert_eq!(image, small());
 }
 
@@ -210,10 +226,13 @@ fn rename_to_its_own_name() {
 fn slip_a_link_on_track_0_is_no_end() {
     // TWO.X goes on from 0/3 by link 00 06, the free chain from 0/5 by 00 07.
     let mut buffer = [0; 246];
-    let reading = read(&small(), PLAIN, b"TWO.X", &mut buffer);
+    let reading = read(&small(), TEN, PLAIN, b"TWO.X", &mut buffer);
     assert_eq!((reading.number, reading.length), (0, 246));
     assert_eq!(buffer[245], 0x22);
-    assert_eq!(save(&mut small(), PLAIN, b"NEW", 0, 0, 0, &[1; 1257]), 0);
+    assert_eq!(
+        save(&mut small(), TEN, PLAIN, b"NEW", 0, 0, 0, &[1; 1257]),
+        0
+    );
 }
 
 #[test]
@@ -224,7 +243,7 @@ fn slip_any_track_byte_ends_a_chain() {
     link(&mut image, (0, 6), (255, 0));
     link(&mut image, (0, 10), (1, 0));
     assert_eq!(rule(&image), 0);
-    assert_eq!(read(&image, PLAIN, b"ONE", &mut [0; 3]).number, 0);
+    assert_eq!(read(&image, TEN, PLAIN, b"ONE", &mut [0; 3]).number, 0);
 }
 
 #[test]
@@ -248,11 +267,11 @@ fn slip_pair_order_in_links_and_entries() {
 fn slip_a_cleared_slot_comes_before_growth() {
     let mut image = with_files(4, 30);
     let directory = position(0, 4);
-    assert_eq!(delete(&mut image, PLAIN, b"F07"), 0);
+    assert_eq!(delete(&mut image, TEN, PLAIN, b"F07"), 0);
     let slot = directory + 3 + 7 * 16;
     assert_eq!(image[slot..slot + 16], [0; 16]);
     let free = free_count(&image);
-    assert_eq!(save(&mut image, PLAIN, b"G", 0, 0, 0, &[1]), 0);
+    assert_eq!(save(&mut image, TEN, PLAIN, b"G", 0, 0, 0, &[1]), 0);
     assert_eq!(image[slot..slot + 9], *b"G        ");
     assert_eq!(image[directory + 2], 15);
     assert_eq!(free_count(&image), free - 1);
@@ -265,7 +284,7 @@ fn slip_room_is_for_module_and_directory_sector() {
     assert_eq!(free_count(&image), 3);
     for (length, number) in [(1, 0), (245, 0), (246, 0), (498, 0), (499, 8), (751, 8)] {
         let mut after = image.clone();
-        let answer = save(&mut after, PLAIN, b"NEW", 0, 0, 0, &vec![1; length]);
+        let answer = save(&mut after, TEN, PLAIN, b"NEW", 0, 0, 0, &vec![1; length]);
         assert_eq!(answer, number, "L = {length}");
         assert_eq!(rule(&after), 0);
         assert_eq!(after == image, number != 0);
@@ -287,5 +306,5 @@ fn slip_a_chain_that_goes_on_past_the_length() {
     assert_eq!(rule(&longer), 5);
     put(&mut longer, ONE_SLOT + 9, &[2, 0, 2, 0, 5, 0]);
     longer[0x16] = 4;
-    assert_eq!(check(&longer, PLAIN).rule, 0);
+    assert_eq!(check(&longer, TEN, PLAIN).rule, 0);
 }

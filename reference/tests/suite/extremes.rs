@@ -1,6 +1,6 @@
 //! The largest discs, the longest chains, circles, and arbitrary bytes.
 
-use crate::common::{link, position, put, rule, PLAIN};
+use crate::common::{link, position, put, rule, rule_of, NINE, PLAIN, TEN};
 use reference::generate::{
     break_rule, command, command_list, damaged_disc, flip_byte, sound_disc, Random,
 };
@@ -34,12 +34,12 @@ fn one_great_file() -> Vec<u8> {
 fn a_file_as_long_as_the_disc() {
     let mut image = one_great_file();
     assert_eq!(rule(&image), 0);
-    assert_eq!(read(&image, PLAIN, b"GREAT", &mut [0; 10]).number, 9);
-    assert_eq!(save(&mut image, PLAIN, b"F", 0, 0, 0, &[1]), 8);
-    assert_eq!(delete(&mut image, PLAIN, b"GREAT"), 0);
+    assert_eq!(read(&image, TEN, PLAIN, b"GREAT", &mut [0; 10]).number, 9);
+    assert_eq!(save(&mut image, TEN, PLAIN, b"F", 0, 0, 0, &[1]), 8);
+    assert_eq!(delete(&mut image, TEN, PLAIN, b"GREAT"), 0);
     assert_eq!(image[0x10..0x18], [10, 79, 2, 0, 0x1E, 0x03, 0, 0]);
     assert_eq!(rule(&image), 0);
-    assert_eq!(save(&mut image, PLAIN, b"F", 0, 0, 0, &[1]), 0);
+    assert_eq!(save(&mut image, TEN, PLAIN, b"F", 0, 0, 0, &[1]), 0);
     assert_eq!(image[0x10..0x18], [9, 79, 2, 0, 0x1D, 0x03, 1, 0]);
 }
 
@@ -65,8 +65,8 @@ fn all_directory() -> Vec<u8> {
 fn a_directory_as_long_as_the_disc() {
     let mut image = all_directory();
     assert_eq!(rule(&image), 0);
-    assert_eq!(list(&image, PLAIN, &mut [0; 15]).length, 15);
-    assert_eq!(save(&mut image, PLAIN, b"F", 0, 0, 0, &[1]), 8);
+    assert_eq!(list(&image, TEN, PLAIN, &mut [0; 15]).length, 15);
+    assert_eq!(save(&mut image, TEN, PLAIN, b"F", 0, 0, 0, &[1]), 8);
     for to in [(0, 2), (79, 10), (0, 1), (80, 1)] {
         link(&mut image, (0, 2), to);
         assert_eq!(rule(&image), 2, "{to:?}");
@@ -95,7 +95,7 @@ fn a_directory_with_every_slot_in_use() {
 #[test]
 fn circles_in_the_free_chain() {
     let mut image = vec![0; 80 * 2560];
-    assert_eq!(blank(&mut image, PLAIN, b"D"), 0);
+    assert_eq!(blank(&mut image, TEN, PLAIN, b"D"), 0);
     for to in [(79, 8), (0, 7), (40, 1), (0, 4), (0, 1), (80, 1), (79, 11)] {
         let mut circle = image.clone();
         link(&mut circle, (79, 8), to);
@@ -123,10 +123,11 @@ fn only_the_very_last_sector_is_lost() {
 #[test]
 fn a_disc_full_of_small_files() {
     let mut image = vec![0; 80 * 2560];
-    assert_eq!(blank(&mut image, PLAIN, b"FULL"), 0);
+    assert_eq!(blank(&mut image, TEN, PLAIN, b"FULL"), 0);
     let mut files = 0;
     while save(
         &mut image,
+        TEN,
         PLAIN,
         format!("F{files}").as_bytes(),
         0,
@@ -141,16 +142,16 @@ fn a_disc_full_of_small_files() {
     assert_eq!(files, 749);
     assert_eq!(image[0x10..0x18], [0, 0, 4, 0, 0, 0, 0xED, 0x02]);
     assert_eq!(rule(&image), 0);
-    assert_eq!(list(&image, PLAIN, &mut vec![0; 9752]).length, 9752);
-    assert_eq!(list(&image, PLAIN, &mut vec![0; 9751]).number, 10);
+    assert_eq!(list(&image, TEN, PLAIN, &mut vec![0; 9752]).length, 9752);
+    assert_eq!(list(&image, TEN, PLAIN, &mut vec![0; 9751]).number, 10);
 }
 
 /// Runs generated commands on an image that need not be sound.
-fn batter(random: &mut Random, image: &mut [u8], commands: usize) {
+fn batter(random: &mut Random, image: &mut [u8], sectors: u32, commands: usize) {
     for _ in 0..commands {
         let before = image.to_vec();
-        let command = command(random, image, PLAIN);
-        let answer = command.run(image, PLAIN);
+        let command = command(random, image, sectors, PLAIN);
+        let answer = command.run(image, sectors, PLAIN);
         assert!(answer.number() <= 11);
         assert!(answer.accepted() || image == before, "{command:?}");
     }
@@ -160,49 +161,52 @@ fn batter(random: &mut Random, image: &mut [u8], commands: usize) {
 fn arbitrary_bytes_are_met_calmly() {
     for seed in 0..400 {
         let mut random = Random::new(seed);
+        let sectors = random.pick(&[NINE, TEN]);
         let length = match random.below(3) {
             0 => random.below(6000),
-            _ => 2560 * random.between(1, 4),
+            _ => 256 * sectors as usize * random.between(1, 4),
         };
         let mut image = random.bytes(length);
         if random.one_in(2) {
             // Small numbers, so that links and pointers stay on the disc.
             image.iter_mut().for_each(|byte| *byte %= 12);
         }
-        batter(&mut random, &mut image, 20);
+        batter(&mut random, &mut image, sectors, 20);
     }
 }
 
 #[test]
 fn damaged_discs_are_met_calmly() {
-    for seed in 0..600 {
+    for (seed, sectors) in (0..1200).zip([NINE, TEN].into_iter().cycle()) {
         let mut random = Random::new(seed);
-        let mut image = damaged_disc(&mut random, 6, PLAIN);
-        batter(&mut random, &mut image, 8);
+        let mut image = damaged_disc(&mut random, 12, sectors, PLAIN);
+        batter(&mut random, &mut image, sectors, 8);
     }
 }
 
 #[test]
 fn generators_reach_every_rule() {
-    let mut seen = [0; 9];
-    for seed in 0..3000 {
-        let image = damaged_disc(&mut Random::new(seed), 6, PLAIN);
-        let checked = check(&image, PLAIN);
-        if checked.number == 0 {
-            seen[checked.rule as usize] += 1;
+    for sectors in [NINE, TEN] {
+        let mut seen = [0; 9];
+        for seed in 0..3000 {
+            let image = damaged_disc(&mut Random::new(seed), 6, sectors, PLAIN);
+            let checked = check(&image, sectors, PLAIN);
+            if checked.number == 0 {
+                seen[checked.rule as usize] += 1;
+            }
         }
+        assert!(seen.iter().all(|&times| times >= 30), "{seen:?}");
     }
-    assert!(seen.iter().all(|&times| times >= 30), "{seen:?}");
 }
 
 #[test]
 fn a_rule_broken_on_purpose_is_the_lowest() {
-    for seed in 0..2000 {
+    for (seed, sectors) in (0..4000).zip([NINE, TEN].into_iter().cycle()) {
         let mut random = Random::new(seed);
-        let mut image = sound_disc(&mut random, 4, PLAIN);
+        let mut image = sound_disc(&mut random, 4, sectors, PLAIN);
         let rule_number = random.between(1, 8);
-        break_rule(&mut random, &mut image, PLAIN, rule_number);
-        let reported = rule(&image) as usize;
+        break_rule(&mut random, &mut image, sectors, PLAIN, rule_number);
+        let reported = rule_of(&image, sectors) as usize;
         // Damage to one place may spare its rule but never breaks a lower one.
         assert!(reported == 0 || reported >= rule_number, "seed {seed}");
     }
@@ -211,11 +215,11 @@ fn a_rule_broken_on_purpose_is_the_lowest() {
 #[test]
 fn generated_discs_are_sound() {
     let (mut not_plain, mut plain, mut full, mut grown) = (0, 0, 0, 0);
-    for seed in 0..2000 {
+    for (seed, sectors) in (0..4000).zip([NINE, TEN].into_iter().cycle()) {
         let mut random = Random::new(seed);
-        let image = sound_disc(&mut random, 8, PLAIN);
-        assert_eq!(rule(&image), 0, "seed {seed}");
-        let book = Book::start(&image, PLAIN).expect("sound");
+        let image = sound_disc(&mut random, 8, sectors, PLAIN);
+        assert_eq!(rule_of(&image, sectors), 0, "seed {seed}");
+        let book = Book::start(&image, sectors, PLAIN).expect("sound");
         full += usize::from(book.free() == 0);
         grown += usize::from(book.directory() > 1);
         for file in book.standing() {
@@ -225,20 +229,22 @@ fn generated_discs_are_sound() {
             }
         }
     }
-    assert!(not_plain > 500 && plain > 1000, "{not_plain} {plain}");
-    assert!(full > 50 && grown > 500, "{full} {grown}");
+    assert!(not_plain > 1000 && plain > 2000, "{not_plain} {plain}");
+    assert!(full > 100 && grown > 1000, "{full} {grown}");
 }
 
 #[test]
 fn the_same_seed_gives_the_same_run() {
-    let make = |seed| {
+    let make = |seed, sectors| {
         let mut random = Random::new(seed);
-        let image = sound_disc(&mut random, 5, PLAIN);
-        let commands = command_list(&mut random, &image, PLAIN, 20);
+        let image = sound_disc(&mut random, 5, sectors, PLAIN);
+        let commands = command_list(&mut random, &image, sectors, PLAIN, 20);
         (image, commands)
     };
-    assert_eq!(make(7), make(7));
-    assert_ne!(make(7), make(8));
+    for sectors in [NINE, TEN] {
+        assert_eq!(make(7, sectors), make(7, sectors));
+        assert_ne!(make(7, sectors), make(8, sectors));
+    }
 }
 
 #[test]
@@ -246,9 +252,9 @@ fn flipped_bytes_change_the_image() {
     let mut changed = 0;
     for seed in 0..100 {
         let mut random = Random::new(seed);
-        let image = sound_disc(&mut random, 3, PLAIN);
+        let image = sound_disc(&mut random, 3, TEN, PLAIN);
         let mut flipped = image.clone();
-        flip_byte(&mut random, &mut flipped, PLAIN);
+        flip_byte(&mut random, &mut flipped, TEN, PLAIN);
         let differences = image.iter().zip(&flipped).filter(|(a, b)| a != b).count();
         assert!(differences <= 1);
         changed += differences;

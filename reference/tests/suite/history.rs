@@ -1,6 +1,6 @@
 //! The book on its own, and that it catches a run that goes wrong.
 
-use crate::common::{moved, small, MOVED, ONE_SLOT, PLAIN, TWO_SLOT};
+use crate::common::{moved, small, MOVED, ONE_SLOT, PLAIN, TEN, TWO_SLOT};
 use reference::blank;
 use reference::command::{Answer, Command};
 use reference::history::{moment_fault, Book, BookReading, Reference};
@@ -23,21 +23,25 @@ fn delete_command(name: &str) -> Command {
 
 /// Runs a command that must be accepted, in the image and in the book.
 fn accept(image: &mut [u8], book: &mut Book, command: &Command) {
-    assert_eq!(command.run(image, PLAIN), Answer::Number(0), "{command:?}");
+    assert_eq!(
+        command.run(image, TEN, PLAIN),
+        Answer::Number(0),
+        "{command:?}"
+    );
     book.record(command, true);
     assert_eq!(moment_fault(&Reference, image, book), None, "{command:?}");
 }
 
 fn blank_start(tracks: usize) -> (Vec<u8>, Book) {
     let mut image = vec![0; tracks * 2560];
-    assert_eq!(blank(&mut image, PLAIN, b"RUN"), 0);
-    let book = Book::start(&image, PLAIN).expect("a blank disc is sound");
+    assert_eq!(blank(&mut image, TEN, PLAIN, b"RUN"), 0);
+    let book = Book::start(&image, TEN, PLAIN).expect("a blank disc is sound");
     (image, book)
 }
 
 #[test]
 fn the_book_of_the_hand_made_disc() {
-    let book = Book::start(&small(), PLAIN).expect("sound");
+    let book = Book::start(&small(), TEN, PLAIN).expect("sound");
     assert_eq!(
         (book.directory(), book.file_sectors(), book.free()),
         (1, 3, 5)
@@ -58,8 +62,8 @@ fn the_book_of_the_hand_made_disc() {
 fn no_book_starts_with_an_unsound_image() {
     let mut image = small();
     image[0x16] = 9;
-    assert_eq!(Book::start(&image, PLAIN), None);
-    assert_eq!(Book::start(&image[1..], PLAIN), None);
+    assert_eq!(Book::start(&image, TEN, PLAIN), None);
+    assert_eq!(Book::start(&image[1..], TEN, PLAIN), None);
 }
 
 #[test]
@@ -108,12 +112,12 @@ fn an_accepted_blank_is_a_new_start() {
     };
     accept(&mut image, &mut book, &again);
     assert_eq!((book.directory(), book.free()), (1, 28));
-    assert_eq!(Book::start(&image, PLAIN), Some(book));
+    assert_eq!(Book::start(&image, TEN, PLAIN), Some(book));
 }
 
 #[test]
 fn refused_commands_change_nothing_in_the_book() {
-    let mut book = Book::start(&small(), PLAIN).expect("sound");
+    let mut book = Book::start(&small(), TEN, PLAIN).expect("sound");
     let before = book.clone();
     book.record(&save_command("NEW", 3), false);
     book.record(&delete_command("ONE"), false);
@@ -128,7 +132,7 @@ fn refused_commands_change_nothing_in_the_book() {
 
 #[test]
 fn faults_are_found() {
-    let book = Book::start(&small(), PLAIN).expect("sound");
+    let book = Book::start(&small(), TEN, PLAIN).expect("sound");
     let found = |at: usize, byte: u8| {
         let mut image = small();
         image[at] = byte;
@@ -149,7 +153,7 @@ fn faults_are_found() {
 
 #[test]
 fn faults_are_found_on_a_moved_image() {
-    let book = Book::start(&moved(&small()), MOVED).expect("sound");
+    let book = Book::start(&moved(&small()), TEN, MOVED).expect("sound");
     assert_eq!(moment_fault(&Reference, &moved(&small()), &book), None);
     let found = |at: usize, byte: u8| {
         let mut image = small();
@@ -167,8 +171,8 @@ fn faults_are_found_on_a_moved_image() {
 
 #[test]
 fn the_arrangement_of_a_run_is_one_throughout() {
-    let plain = Book::start(&small(), PLAIN).expect("sound");
-    let book = Book::start(&moved(&small()), MOVED).expect("sound");
+    let plain = Book::start(&small(), TEN, PLAIN).expect("sound");
+    let book = Book::start(&moved(&small()), TEN, MOVED).expect("sound");
     assert_eq!((plain.arrangement(), book.arrangement()), (PLAIN, MOVED));
     assert_eq!(plain.standing(), book.standing());
     assert_eq!((book.directory(), book.free()), (1, 5));
@@ -181,16 +185,16 @@ fn the_arrangement_of_a_run_is_one_throughout() {
         (small(), 2),
         (small(), u32::MAX),
     ] {
-        assert_eq!(Book::start(&image, other), None, "{other}");
+        assert_eq!(Book::start(&image, TEN, other), None, "{other}");
     }
 }
 
 #[test]
 fn a_save_that_only_says_done_is_found() {
-    let mut book = Book::start(&small(), PLAIN).expect("sound");
+    let mut book = Book::start(&small(), TEN, PLAIN).expect("sound");
     book.record(&save_command("NEW", 3), true);
     assert!(moment_fault(&Reference, &small(), &book).is_some());
-    let mut book = Book::start(&small(), PLAIN).expect("sound");
+    let mut book = Book::start(&small(), TEN, PLAIN).expect("sound");
     book.record(&delete_command("ONE"), true);
     assert!(moment_fault(&Reference, &small(), &book).is_some());
 }
@@ -198,9 +202,9 @@ fn a_save_that_only_says_done_is_found() {
 #[test]
 fn a_sheet_of_other_bytes_is_found() {
     let mut image = small();
-    let mut book = Book::start(&image, PLAIN).expect("sound");
+    let mut book = Book::start(&image, TEN, PLAIN).expect("sound");
     let mut other = save_command("NEW", 3);
-    assert_eq!(other.run(&mut image, PLAIN), Answer::Number(0));
+    assert_eq!(other.run(&mut image, TEN, PLAIN), Answer::Number(0));
     if let Command::Save { sheet, .. } = &mut other {
         sheet[2] = 0x43;
     }

@@ -1,6 +1,6 @@
 //! Bytes around what is lent stay, and what is only read stays as well.
 
-use crate::common::{small, ONE_SLOT, PLAIN};
+use crate::common::{small, ONE_SLOT, PLAIN, TEN};
 use reference::{blank, delete, list, protect, read, rename, save};
 
 const GUARD: usize = 600;
@@ -22,28 +22,37 @@ fn writing_commands_keep_the_guard_bytes() {
     let image = small();
     let sheet = [4; 1257];
     assert_eq!(
-        guarded(&image, |lent| save(lent, PLAIN, b"N", 0, 0, 0, &sheet)),
+        guarded(&image, |lent| save(lent, TEN, PLAIN, b"N", 0, 0, 0, &sheet)),
         0
     );
-    assert_eq!(guarded(&image, |lent| delete(lent, PLAIN, b"ONE")), 0);
-    assert_eq!(guarded(&image, |lent| rename(lent, PLAIN, b"ONE", b"N")), 0);
-    assert_eq!(guarded(&image, |lent| protect(lent, PLAIN, b"ONE", 1)), 0);
-    assert_eq!(guarded(&image, |lent| blank(lent, PLAIN, b"N")), 0);
-    assert_eq!(guarded(&image[..2559], |lent| blank(lent, PLAIN, b"N")), 1);
+    assert_eq!(guarded(&image, |lent| delete(lent, TEN, PLAIN, b"ONE")), 0);
+    assert_eq!(
+        guarded(&image, |lent| rename(lent, TEN, PLAIN, b"ONE", b"N")),
+        0
+    );
+    assert_eq!(
+        guarded(&image, |lent| protect(lent, TEN, PLAIN, b"ONE", 1)),
+        0
+    );
+    assert_eq!(guarded(&image, |lent| blank(lent, TEN, PLAIN, b"N")), 0);
+    assert_eq!(
+        guarded(&image[..2559], |lent| blank(lent, TEN, PLAIN, b"N")),
+        1
+    );
 }
 
 #[test]
 fn read_and_list_write_the_front_only() {
     for extra in [0, 1, 300] {
         let mut memory = vec![0xBD; GUARD + 246 + extra];
-        let reading = read(&small(), PLAIN, b"TWO.X", &mut memory[GUARD..]);
+        let reading = read(&small(), TEN, PLAIN, b"TWO.X", &mut memory[GUARD..]);
         assert_eq!((reading.number, reading.length), (0, 246));
         assert!(memory[..GUARD].iter().all(|&byte| byte == 0xBD));
         assert_eq!(memory[GUARD..GUARD + 245], [0x11; 245]);
         assert_eq!(memory[GUARD + 245], 0x22);
         assert!(memory[GUARD + 246..].iter().all(|&byte| byte == 0xBD));
         let mut memory = vec![0xBD; GUARD + 41 + extra];
-        assert_eq!(list(&small(), PLAIN, &mut memory[GUARD..]).length, 41);
+        assert_eq!(list(&small(), TEN, PLAIN, &mut memory[GUARD..]).length, 41);
         assert!(memory[..GUARD].iter().all(|&byte| byte == 0xBD));
         assert_eq!(memory[GUARD + 40], 0);
         assert!(memory[GUARD + 41..].iter().all(|&byte| byte == 0xBD));
@@ -57,11 +66,11 @@ fn bytes_of_no_meaning_are_kept() {
     image[0x21..256].fill(0x62);
     image[768 + 243..768 + 256].fill(0x63);
     let before = image.clone();
-    assert_eq!(save(&mut image, PLAIN, b"N", 0, 0, 0, &[1; 300]), 0);
-    assert_eq!(rename(&mut image, PLAIN, b"ONE", b"M"), 0);
-    assert_eq!(protect(&mut image, PLAIN, b"M", 1), 0);
-    assert_eq!(protect(&mut image, PLAIN, b"M", 0), 0);
-    assert_eq!(delete(&mut image, PLAIN, b"M"), 0);
+    assert_eq!(save(&mut image, TEN, PLAIN, b"N", 0, 0, 0, &[1; 300]), 0);
+    assert_eq!(rename(&mut image, TEN, PLAIN, b"ONE", b"M"), 0);
+    assert_eq!(protect(&mut image, TEN, PLAIN, b"M", 1), 0);
+    assert_eq!(protect(&mut image, TEN, PLAIN, b"M", 0), 0);
+    assert_eq!(delete(&mut image, TEN, PLAIN, b"M"), 0);
     assert_eq!(image[..0x10], before[..0x10]);
     assert_eq!(image[0x18..256], before[0x18..256]);
     assert_eq!(image[768 + 243..1024], before[768 + 243..1024]);

@@ -12,4 +12,5 @@ mod lent_memory;
 mod not_plain;
 mod refusals;
 mod runs;
+mod sectors;
 mod trace;

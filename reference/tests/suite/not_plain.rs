@@ -1,6 +1,6 @@
 //! Which files are load modules, byte for byte, and which only nearly.
 
-use crate::common::{link, position, put, rule, small, ONE_SLOT, PLAIN, TWO_SLOT};
+use crate::common::{link, position, put, rule, small, ONE_SLOT, PLAIN, TEN, TWO_SLOT};
 use reference::read;
 
 /// What read answers for a file after bytes of `small` are overwritten. The
@@ -11,7 +11,7 @@ fn number_with(name: &[u8], changes: &[(usize, &[u8])]) -> u32 {
         put(&mut image, at, bytes);
     }
     assert_eq!(rule(&image), 0);
-    read(&image, PLAIN, name, &mut vec![0; 65_536]).number
+    read(&image, TEN, PLAIN, name, &mut vec![0; 65_536]).number
 }
 
 fn one_with(at: usize, bytes: &[u8]) -> u32 {
@@ -100,7 +100,7 @@ fn a_sector_too_many_or_too_few() {
     put(&mut image, ONE_SLOT + 9, &[2, 0, 2, 0, 5, 0]);
     put(&mut image, 0x10, &[7, 0, 4, 0, 4, 0, 4, 0]);
     assert_eq!(rule(&image), 0);
-    assert_eq!(read(&image, PLAIN, b"ONE", &mut [0; 300]).number, 9);
+    assert_eq!(read(&image, TEN, PLAIN, b"ONE", &mut [0; 300]).number, 9);
     // TWO.X without its second sector, which goes to the free chain.
     let mut image = small();
     link(&mut image, (0, 3), (0, 0));
@@ -108,7 +108,7 @@ fn a_sector_too_many_or_too_few() {
     put(&mut image, TWO_SLOT + 9, &[1, 0, 3, 0, 3, 0]);
     put(&mut image, 0x10, &[6, 0, 4, 0, 6, 0, 2, 0]);
     assert_eq!(rule(&image), 0);
-    assert_eq!(read(&image, PLAIN, b"TWO.X", &mut [0; 300]).number, 9);
+    assert_eq!(read(&image, TEN, PLAIN, b"TWO.X", &mut [0; 300]).number, 9);
 }
 
 #[test]
@@ -116,6 +116,6 @@ fn links_do_not_count() {
     let mut image = small();
     link(&mut image, (0, 2), (0xFF, 0));
     link(&mut image, (0, 6), (0x12, 0));
-    assert_eq!(read(&image, PLAIN, b"ONE", &mut [0; 3]).number, 0);
-    assert_eq!(read(&image, PLAIN, b"TWO.X", &mut [0; 246]).number, 0);
+    assert_eq!(read(&image, TEN, PLAIN, b"ONE", &mut [0; 3]).number, 0);
+    assert_eq!(read(&image, TEN, PLAIN, b"TWO.X", &mut [0; 246]).number, 0);
 }

@@ -1,7 +1,7 @@
 //! Every refusal of every command, every pair that can hold at once, and
 //! that a refusal leaves all lent memory as it was.
 
-use crate::common::{position, small, ONE_SLOT, PLAIN};
+use crate::common::{position, small, ONE_SLOT, PLAIN, TEN};
 use reference::{
     blank, check, delete, list, protect, read, rename, save, view, view_number, Checked, Listed,
     Reading,
@@ -44,33 +44,33 @@ fn number_of(image: &[u8], command: impl Fn(&mut [u8]) -> u32) -> u32 {
 
 fn saved(image: &[u8], name: &[u8], page: u32, start: u16, length: usize) -> u32 {
     number_of(image, |after| {
-        save(after, PLAIN, name, page, start, 0, &vec![1; length])
+        save(after, TEN, PLAIN, name, page, start, 0, &vec![1; length])
     })
 }
 
 fn deleted(image: &[u8], name: &[u8]) -> u32 {
-    number_of(image, |after| delete(after, PLAIN, name))
+    number_of(image, |after| delete(after, TEN, PLAIN, name))
 }
 
 fn renamed(image: &[u8], old: &[u8], new: &[u8]) -> u32 {
-    number_of(image, |after| rename(after, PLAIN, old, new))
+    number_of(image, |after| rename(after, TEN, PLAIN, old, new))
 }
 
 /// Both turns of protect, which must agree.
 fn protected(image: &[u8], name: &[u8]) -> u32 {
-    let on = number_of(image, |after| protect(after, PLAIN, name, 1));
-    let off = number_of(image, |after| protect(after, PLAIN, name, 0));
+    let on = number_of(image, |after| protect(after, TEN, PLAIN, name, 1));
+    let off = number_of(image, |after| protect(after, TEN, PLAIN, name, 0));
     assert_eq!(on, off);
     on
 }
 
 fn blanked(image: &[u8], name: &[u8]) -> u32 {
-    number_of(image, |after| blank(after, PLAIN, name))
+    number_of(image, |after| blank(after, TEN, PLAIN, name))
 }
 
 fn read_number(image: &[u8], name: &[u8], lent: usize) -> u32 {
     let mut buffer = vec![0xA5; lent];
-    let reading = read(image, PLAIN, name, &mut buffer);
+    let reading = read(image, TEN, PLAIN, name, &mut buffer);
     if reading.number != 0 {
         assert_eq!(buffer, vec![0xA5; lent]);
         let expected = Reading {
@@ -88,7 +88,7 @@ fn read_number(image: &[u8], name: &[u8], lent: usize) -> u32 {
 
 fn list_number(image: &[u8], lent: usize) -> u32 {
     let mut buffer = vec![0xA5; lent];
-    let listed = list(image, PLAIN, &mut buffer);
+    let listed = list(image, TEN, PLAIN, &mut buffer);
     if listed.number != 0 {
         assert_eq!(buffer, vec![0xA5; lent]);
         assert_eq!(listed.length, 0);
@@ -97,9 +97,9 @@ fn list_number(image: &[u8], lent: usize) -> u32 {
 }
 
 fn viewed(image: &[u8], track: u32, sector: u32) -> u32 {
-    let number = view_number(image, PLAIN, track, sector);
+    let number = view_number(image, TEN, PLAIN, track, sector);
     let length = if number == 0 { 254 } else { 0 };
-    assert_eq!(view(image, PLAIN, track, sector).len(), length);
+    assert_eq!(view(image, TEN, PLAIN, track, sector).len(), length);
     number
 }
 
@@ -285,12 +285,12 @@ fn view_alone_and_in_pairs() {
 fn every_command_refuses_every_wrong_size() {
     for length in [0, 1, 255, 2_559, 2_561, 5_119, 204_801, 207_360, 256_000] {
         let image = vec![0; length];
-        assert_eq!(check(&image, PLAIN), Checked { number: 1, rule: 0 });
+        assert_eq!(check(&image, TEN, PLAIN), Checked { number: 1, rule: 0 });
         let refused = Listed {
             number: 1,
             length: 0,
         };
-        assert_eq!(list(&image, PLAIN, &mut [0; 100]), refused);
+        assert_eq!(list(&image, TEN, PLAIN, &mut [0; 100]), refused);
         assert_eq!(read_number(&image, b"ONE", 3), 1);
         assert_eq!(saved(&image, b"NEW", 0, 0, 1), 1);
         assert_eq!(deleted(&image, b"ONE"), 1);
@@ -329,7 +329,7 @@ fn every_broken_rule_gives_3() {
     images.extend([twice, lost]);
     let rules: Vec<u32> = images
         .iter()
-        .map(|image| check(image, PLAIN).rule)
+        .map(|image| check(image, TEN, PLAIN).rule)
         .collect();
     assert_eq!(rules, [1, 2, 3, 5, 6, 7, 5, 4, 8]);
     for image in images {

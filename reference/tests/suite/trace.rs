@@ -1,8 +1,15 @@
 //! The trace program: its text is read back and every run replayed from it.
 
-use crate::common::{moved_position, position, MOVED, PLAIN};
+use crate::common::{moved_position, position, MOVED, NINE, PLAIN, TEN};
 use reference::command::{Answer, Buffer, Command};
 use std::process::Command as Process;
+
+/// What stands in front for each format.
+const FORMATS: [[&str; 2]; 3] = [
+    ["--arrangement", "0"],
+    ["--arrangement", "1"],
+    ["--sectors", "9"],
+];
 
 fn trace(arguments: &[&str]) -> Vec<String> {
     let output = Process::new(env!("CARGO_BIN_EXE_trace"))
@@ -102,6 +109,7 @@ fn same(answer: &Answer, fields: &[&str]) -> bool {
 /// One image as the commands make it, and one as the trace says it changed.
 #[derive(Default)]
 struct Replay {
+    sectors: u32,
     arrangement: u32,
     made: Vec<u8>,
     told: Vec<u8>,
@@ -113,7 +121,8 @@ impl Replay {
     fn line(&mut self, line: &str) {
         let fields: Vec<&str> = line.split(' ').collect();
         match *fields {
-            ["image", arrangement, image] => {
+            ["image", sectors, arrangement, image] => {
+                self.sectors = number(sectors);
                 self.arrangement = number(arrangement);
                 self.made = bytes(image);
                 self.told = self.made.clone();
@@ -125,11 +134,11 @@ impl Replay {
                 self.told[start..start + told.len()].copy_from_slice(&told);
             }
             ["check", done, rule] => {
-                let checked = reference::check(&self.made, self.arrangement);
+                let checked = reference::check(&self.made, self.sectors, self.arrangement);
                 assert_eq!([checked.number, checked.rule], [number(done), number(rule)]);
             }
             ["moment", "none"] => {
-                let checked = reference::check(&self.made, self.arrangement);
+                let checked = reference::check(&self.made, self.sectors, self.arrangement);
                 assert_ne!((checked.number, checked.rule), (0, 0));
             }
             ["moment", free, directory, files] => self.moment([free, directory, files]),
@@ -141,10 +150,11 @@ impl Replay {
     /// Where the sector of a number begins in the image.
     fn start(&self, number: usize) -> usize {
         let (track, sector) = (number / 10, number % 10 + 1);
-        match self.arrangement {
-            PLAIN => position(track, sector),
-            MOVED => moved_position(track, sector),
-            other => panic!("a sector changed in arrangement {other}"),
+        match (self.sectors, self.arrangement) {
+            (TEN, PLAIN) => position(track, sector),
+            (TEN, MOVED) => moved_position(track, sector),
+            (NINE, PLAIN) => 256 * number,
+            other => panic!("a sector changed with {other:?} stated"),
         }
     }
 
@@ -158,7 +168,8 @@ impl Replay {
 
     fn command(&mut self, fields: &[&str]) {
         let equals = fields.iter().position(|&field| field == "=").expect("=");
-        let answer = parse(&fields[..equals]).run(&mut self.made, self.arrangement);
+        let command = parse(&fields[..equals]);
+        let answer = command.run(&mut self.made, self.sectors, self.arrangement);
         assert!(same(&answer, &fields[equals + 1..]), "{fields:?}");
         self.commands += 1;
     }
@@ -174,7 +185,14 @@ fn replay(arguments: &[&str]) -> Replay {
 
 #[test]
 fn runs_on_sound_discs() {
-    for front in [&[][..], &["--arrangement", "0"], &["--arrangement", "1"]] {
+    for front in [
+        &[][..],
+        &["--arrangement", "0"],
+        &["--arrangement", "1"],
+        &["--sectors", "10", "--arrangement", "1"],
+        &["--sectors", "9"],
+        &["--arrangement", "0", "--sectors", "9"],
+    ] {
         let replayed = replay(&[front, &["5", "120", "6"]].concat());
         assert_eq!(replayed.images, 120);
         assert!(replayed.commands > 400, "{}", replayed.commands);
@@ -183,25 +201,87 @@ fn runs_on_sound_discs() {
 
 #[test]
 fn damaged_images() {
-    for number in ["0", "1"] {
-        let replayed = replay(&["--arrangement", number, "damaged", "5", "200", "6"]);
+    for option in FORMATS {
+        let replayed = replay(&[&option[..], &["damaged", "5", "200", "12"]].concat());
         assert_eq!((replayed.images, replayed.commands), (200, 0));
     }
 }
 
 #[test]
 fn runs_on_damaged_images() {
-    for number in ["0", "1"] {
-        let replayed = replay(&["--arrangement", number, "refused", "5", "120", "4"]);
+    for option in FORMATS {
+        let replayed = replay(&[&option[..], &["refused", "5", "120", "12"]].concat());
         assert_eq!(replayed.images, 120);
         assert!(replayed.commands > 400, "{}", replayed.commands);
     }
 }
 
+/// The bytes of every image in a trace, and the numbers stated with it.
+fn images(front: &[&str], rest: &[&str]) -> Vec<(String, String)> {
+    trace(&[front, rest].concat())
+        .iter()
+        .filter_map(|line| line.strip_prefix("image "))
+        .filter_map(|image| image.rsplit_once(' '))
+        .map(|(numbers, bytes)| (numbers.to_string(), bytes.to_string()))
+        .collect()
+}
+
 #[test]
-fn an_arrangement_that_is_none_refuses_every_call() {
-    for number in ["2", "256", "4294967295"] {
-        let arguments = ["--arrangement", number, "refused", "5", "60", "3"];
+fn the_numbers_stand_in_front_of_the_image() {
+    for (front, numbers) in [
+        (&[][..], "10 0"),
+        (&["--arrangement", "1"], "10 1"),
+        (&["--sectors", "9"], "9 0"),
+        (&["--arrangement", "1", "--sectors", "9"], "9 1"),
+        (&["--sectors", "266", "--arrangement", "7"], "266 7"),
+        (&["--sectors", "9", "--sectors", "10"], "10 0"),
+    ] {
+        let made = images(front, &["3", "5", "4"]);
+        assert_eq!(made.len(), 5);
+        assert!(made.iter().all(|(stated, _)| stated == numbers));
+    }
+}
+
+#[test]
+fn numbers_that_are_no_format_get_plain_images() {
+    for (front, of) in [
+        (["--sectors", "8", "--arrangement", "0"], "10"),
+        (["--sectors", "11", "--arrangement", "1"], "10"),
+        (["--sectors", "265", "--arrangement", "0"], "10"),
+        (["--sectors", "10", "--arrangement", "2"], "10"),
+        (["--sectors", "9", "--arrangement", "1"], "9"),
+        (["--sectors", "9", "--arrangement", "257"], "9"),
+    ] {
+        for mode in [&[][..], &["damaged"], &["refused"]] {
+            let rest = &[mode, &["17", "40", "11"]].concat();
+            let plain = &["--sectors", of];
+            let bytes = |front: &[&str]| -> Vec<String> {
+                images(front, rest)
+                    .into_iter()
+                    .map(|(_, hex)| hex)
+                    .collect()
+            };
+            let (made, of_plain) = (bytes(&front), bytes(plain));
+            // Accepted commands lead the seed elsewhere after the first run.
+            let same = if mode == ["damaged"] { 40 } else { 1 };
+            assert!(made[..same] == of_plain[..same], "{front:?} {mode:?}");
+        }
+    }
+}
+
+#[test]
+fn numbers_that_are_no_format_refuse_every_call() {
+    for front in [
+        &["--arrangement", "2"][..],
+        &["--arrangement", "256"],
+        &["--arrangement", "4294967295"],
+        &["--sectors", "8"],
+        &["--sectors", "0"],
+        &["--sectors", "265"],
+        &["--sectors", "4294967295", "--arrangement", "1"],
+        &["--sectors", "9", "--arrangement", "1"],
+    ] {
+        let arguments = [front, &["refused", "5", "60", "3"]].concat();
         let replayed = replay(&arguments);
         assert!(replayed.commands > 200, "{}", replayed.commands);
         for line in trace(&arguments) {
@@ -252,6 +332,11 @@ fn wrong_arguments_are_refused() {
         &["--arrangement", "x", "1", "2", "3"],
         &["--arrangement", "4294967296", "1", "2", "3"],
         &["damaged", "--arrangement", "1", "1", "2", "3"],
+        &["--sectors", "9", "2", "3"],
+        &["--sectors", "x", "1", "2", "3"],
+        &["--sectors", "-9", "1", "2", "3"],
+        &["--sectors", "4294967296", "1", "2", "3"],
+        &["1", "2", "3", "--sectors", "9"],
     ] {
         let status = Process::new(env!("CARGO_BIN_EXE_trace"))
             .args(arguments)

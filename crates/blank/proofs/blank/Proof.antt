@@ -44,7 +44,7 @@ blank-on-requires c κs =
     let a = c .before .before .before .before .before .before .before .before .before .before .before .args in
     let e = sym (c .before .before .before .before .before .before .before .before .geometry-of .ensures) ∙ c .before .before .before .before .before .before .g .given .1 in
     let o = opened _ (a .image .now) _ e in
-    (o .on-image, o .ten-on-track)
+    o .on-image
 
 returns-2 : tie.Need-returns-2
 returns-2 c =

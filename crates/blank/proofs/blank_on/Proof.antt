@@ -3,9 +3,8 @@
 use borrow.Author.Needs.{needs}
 use native.Mathlib.Omega.{arith}
 use Prim.Native.Nat.{_-_}
-use mathlib.Core.Path.{sym, ap, subst, _∙_}
-use mathlib.Core.List.{List, []}
-use Prim.Native.Nat.{ℕ}
+use mathlib.Core.Path.{_≡_, sym, ap, subst, _∙_}
+use mathlib.Core.List.{[]}
 use lib.ListN.{length, set, replicate, getD-replicate}
 use Rattle.disc.specs.Laws.{each-once}
 use Rattle.format.specs.Geometry.{Disc, sector, sectors, written}
@@ -16,25 +15,55 @@ use Rattle.blank.specs.Zeros.{cut-zeros, bare-zeros}
 use Rattle.blank.proofs.blank_on.Statement.{statement}
 use Rattle.blank.proofs.blank_on.Tie as tie
 
+-- ---- once the image is cleared
+
+abbrev begin : (c : tie.After-clear) → tie.Start
+begin c = c .before .before .before .before
+
+zeros : (c : tie.After-clear) → sectorsOf (begin c .args .g) (c .clear .last .0) ≡ replicate (sectors (geo (begin c .args .g))) (replicate 256 0)
+zeros c =
+    let a = begin c .args in
+    let i = begin c .pre in
+    ap (sectorsOf (a .g)) (c .clear .ensures)
+    ∙ cut-zeros (form (a .g)) (geo (a .g)) (each-once (i .valid)) (length (a .image .now)) (omega (arith, i .long, i .valid .total))
+
+stops-requires : tie.Need-stops-requires
+stops-requires c κs = c .before .pre .valid
+
 clear-requires : tie.Need-clear-requires
 clear-requires c κs = search needs
 
+slice-aggregate-put-system : tie.Need-slice-aggregate-put-system
+slice-aggregate-put-system c = search needs
+
 put-system-requires : tie.Need-put-system-requires
 put-system-requires c κs =
-    let start = c .before .before .before .before .before .before in
-    let a = start .args in
-    let v = start .pre .0 .valid in
-    let blank = ap (λ (i : List ℕ). sector (sectorsOf (a .g) i) 0) (c .before .before .before .clear .ensures) ∙ ap (λ (d : Disc). sector d 0) (cut-zeros (form (a .g)) (geo (a .g)) (each-once v) (length (a .image .now)) (omega (arith, start .pre .0 .long, v .total))) in
-    (search needs, start .pre .1, blank ∙ getD-replicate (sectors (geo (a .g))) 0 (replicate 256 0) [] (omega (arith, v .total, v .some-sectors)))
+    let cleared = c .before .before .before .before in
+    let v = begin cleared .pre .valid in
+    let G = geo (begin cleared .args .g) in (
+      search needs,
+      cleared .before .before .stops .ensures,
+      ap (λ (d : Disc). sector d 0) (zeros cleared) ∙ getD-replicate (sectors G) 0 (replicate 256 0) [] (omega (arith, v .total, v .some-sectors)),
+    )
+
+-- the system sector over zeros
+system-put : (c : tie.After-put-system) → let cleared = c .before .before .before .before .before in
+    let a = begin cleared .args in
+    sectorsOf (a .g) (c .put-system .last .0) ≡ set (replicate (sectors (geo (a .g))) (replicate 256 0)) 0 (blankSystem (geo (a .g)) (a .name .bytes))
+system-put c =
+    let cleared = c .before .before .before .before .before in
+    let a = begin cleared .args in
+    c .put-system .ensures ∙ ap (λ (d : Disc). set d 0 (blankSystem (geo (a .g)) (a .name .bytes))) (zeros cleared)
+
+slice-aggregate-put-chain : tie.Need-slice-aggregate-put-chain
+slice-aggregate-put-chain c = search needs
 
 put-chain-requires : tie.Need-put-chain-requires
 put-chain-requires c κs =
-    let start = c .before .before .before .before .before .before .before .before .before .before in
-    let a = start .args in
-    let G = geo (a .g) in
-    let zeros = ap (sectorsOf (a .g)) (c .before .before .before .before .before .before .before .clear .ensures) ∙ cut-zeros (form (a .g)) G (each-once (start .pre .0 .valid)) (length (a .image .now)) (omega (arith, start .pre .0 .long, start .pre .0 .valid .total)) in
-    let bare = subst Bare (sym (c .before .before .before .put-system .ensures ∙ ap (λ (d : Disc). set d 0 (blankSystem G (a .name .bytes))) zeros)) (bare-zeros (sectors G) (blankSystem G (a .name .bytes))) in
-    (search needs, start .pre .1, bare)
+    let put = c .before .before .before .before in
+    let cleared = put .before .before .before .before .before in
+    let a = begin cleared .args in
+    (search needs, cleared .before .before .stops .ensures, subst Bare (sym (system-put put)) (bare-zeros (sectors (geo (a .g))) (blankSystem (geo (a .g)) (a .name .bytes))))
 
 same-length : tie.Need-same-length
 same-length c = search needs
@@ -42,13 +71,20 @@ same-length c = search needs
 returns : tie.Need-returns
 unfolding blankDisc
 returns c =
-    let start = c .before .before .before .before .before .before .before .before .before .before .before .before .before in
-    let a = start .args in
-    let G = geo (a .g) in
-    let zeros = ap (sectorsOf (a .g)) (c .before .before .before .before .before .before .before .before .before .before .clear .ensures) ∙ cut-zeros (form (a .g)) G (each-once (start .pre .0 .valid)) (length (a .image .now)) (omega (arith, start .pre .0 .long, start .pre .0 .valid .total)) in
-    c .before .before .put-chain .ensures
-    ∙ ap (written (chained G (blankFree G) (replicate (sectors G - 2) (replicate 254 0)))) (c .before .before .before .before .before .before .put-system .ensures ∙ ap (λ (d : Disc). set d 0 (blankSystem G (a .name .bytes))) zeros)
+    let linked = c .before .before in
+    let put = linked .before .before .before .before .before in
+    let G = geo (begin (put .before .before .before .before .before) .args .g) in
+    linked .put-chain .ensures ∙ ap (written (chained G (blankFree G) (replicate (sectors G - 2) (replicate 254 0)))) (system-put put)
 
 pub blank-on-spec : {M : Type 1} → statement M
 blank-on-spec =
-    tie.close (tie.spec clear-requires put-system-requires put-chain-requires same-length returns)
+    tie.close
+    (tie.spec
+    stops-requires
+    clear-requires
+    slice-aggregate-put-system
+    put-system-requires
+    slice-aggregate-put-chain
+    put-chain-requires
+    same-length
+    returns)

@@ -4,47 +4,56 @@ use borrow.Author.Needs.{needs}
 use native.Mathlib.Omega.{arith}
 use native.Mathlib.Nat.{mul-le-mul-left}
 use Prim.Native.Nat.{ℕ, _+_, _*_, _-_, _≤_}
-use mathlib.Core.Path.{_≡_, refl, sym, ap, _∙_}
+use mathlib.Core.Path.{_≡_, refl, sym, ap, subst, _∙_}
 use mathlib.Core.List.{List}
 use lib.ListN.{length}
-use Rattle.format.specs.Geometry.{ten, Write, written}
-use Rattle.disc.specs.Meaning.{geo, sectorsOf, Valid}
+use Rattle.format.specs.Geometry.{Write, written}
+use Rattle.disc.specs.Meaning.{geo, sectorsOf}
 use Rattle.disc.specs.Laws.{image-kept}
-use Rattle.blank.specs.Meaning.{Ten, Bare}
-use Rattle.blank.specs.Links.{linksFrom, links-end, links-whole}
+use Rattle.blank.specs.Links.{linksFrom, links-end, links-whole, Linked, linked-none, linked-more}
 use Rattle.blank.proofs.put_chain.Statement.{statement}
 use Rattle.blank.proofs.put_chain.Tie as tie
 
 abbrev Inv-loop : tie.InvT-loop
-Inv-loop image₀ g track₀ image track =
-    (1 ≤ track) × (track ≤ g .tracks) × (length image ≡ length image₀) × Bare (sectorsOf g image)
-    × ((v : Valid g) (t : Ten g)
-    → written (linksFrom v t (geo g .perTrack * track)) (sectorsOf g image) ≡ written (linksFrom v t (geo g .perTrack * 1)) (sectorsOf g image₀))
+Inv-loop image₀ g stops track₀ image track =
+    (1 ≤ track) × (track ≤ g .tracks) × (length image ≡ length image₀) × Linked g (geo g .perTrack * 1) (geo g .perTrack * track) image₀ image
 
 abbrev μ-loop : tie.MeasureT-loop
-μ-loop image₀ g track₀ image track = g .tracks - track
+μ-loop image₀ g stops track₀ image track = g .tracks - track
 
 put-track-requires : tie.Need-put-track-requires Inv-loop μ-loop
-unfolding ten
 put-track-requires c κs =
-    let pre = c .before .before .pre in
-    (pre .0, pre .1, pre .0 .valid .some-track, omega (arith, pre .1), omega arith, pre .2)
+    let pre = c .before .before .before .pre in
+    (pre .0, pre .1, pre .0 .valid .some-track, omega (arith, pre .0 .valid .nine-on-track), omega arith, pre .2)
 
 loop-holds : tie.Need-loop-holds Inv-loop μ-loop
 loop-holds c =
-    let put = c .before .before in
-    (omega arith, put .before .before .before .pre .0 .valid .some-track, refl, put .put-track .ensures .bare, λ v t. refl)
+    let first = c .before .before in
+    let start = first .before .before .before .before in
+    (omega arith, start .pre .0 .valid .some-track, refl, linked-none _ _ _ (first .put-track .ensures .bare))
+
+-- ---- at the loop
+
+abbrev first-put : (l : tie.At-loop Inv-loop μ-loop) → tie.After-put-track Inv-loop μ-loop
+first-put l = l .before .before .before
+
+abbrev begin : (l : tie.At-loop Inv-loop μ-loop) → tie.Start Inv-loop μ-loop
+begin l = first-put l .before .before .before .before
 
 put-track-requires-2 : tie.Need-put-track-requires-2 Inv-loop μ-loop
-unfolding ten
 put-track-requires-2 c κs =
-    let l = c .before .before .before .loop in
-    let first = c .before .before .before .before .before .before in
-    let pre = first .before .before .before .pre in
-    let g = first .before .before .before .args .g in
-    let more = mul-le-mul-left (geo g .perTrack) (l .inv .0) in
-    let long : length (l .image) ≡ length (first .before .before .before .args .image .now) = search needs in
-    (image-kept (pre .0) long, pre .1, c .before .if1 .taken, omega arith, omega (arith, more, pre .1), l .inv .3)
+    let tested = c .before in
+    let l = tested .before .before in
+    let pre = begin l .pre in
+    let more = mul-le-mul-left (geo (begin l .args .g) .perTrack) (l .loop .inv .0) in
+    let long : length (l .loop .image) ≡ length (begin l .args .image .now) = search needs in (
+      image-kept (pre .0) long,
+      pre .1,
+      tested .if1 .taken,
+      pre .0 .valid .some-on-track,
+      omega (arith, more, pre .0 .valid .nine-on-track),
+      l .loop .inv .3 .bare,
+    )
 
 add-track : tie.Need-add-track Inv-loop μ-loop
 add-track c = search needs
@@ -55,14 +64,15 @@ loop-less c = search needs
 loop-again : tie.Need-loop-again Inv-loop μ-loop
 loop-again c =
     let put = c .before .before in
-    let l = put .before .before .before .before .loop in
-    let g = put .before .before .before .before .before .before .before .before .before .before .args .g in
-    let begin : geo g .perTrack * l .track + 0 ≡ geo g .perTrack * l .track = omega arith in (
+    let l = put .before .before .before .before in
+    let g = begin l .args .g in
+    let track : ℕ = l .loop .track in
+    let from : geo g .perTrack * track + 0 ≡ geo g .perTrack * track = omega arith in (
       omega arith,
       omega arith,
       search needs,
-      put .put-track2 .ensures .bare,
-      λ v t. put .put-track2 .ensures .links v t ∙ ap (λ (j : ℕ). written (linksFrom v t j) (sectorsOf g (l .image))) begin ∙ l .inv .4 v t,
+      linked-more (l .loop .inv .3)
+          (subst (λ (k : ℕ). Linked g k (geo g .perTrack * (track + 1)) (l .loop .image) (put .put-track2 .last .0)) from (put .put-track2 .ensures)),
     )
 
 same-length : tie.Need-same-length Inv-loop μ-loop
@@ -70,20 +80,15 @@ same-length c = search needs
 
 returns : tie.Need-returns Inv-loop μ-loop
 returns c =
-    let l = c .before .before .loop in
-    let first = c .before .before .before .before .before in
-    let start = first .before .before .before in
-    let a = start .args in
-    let v = start .pre .0 .valid in
-    let t = start .pre .1 in
-    let all : l .track ≡ a .g .tracks = omega (arith, c .if1 .left, l .inv .1) in
-    let end = links-end v t (geo (a .g) .perTrack * l .track) (omega (arith, v .total, ap (λ (q : ℕ). geo (a .g) .perTrack * q) all)) in
-    let begin : geo (a .g) .perTrack * 0 + 2 ≡ 2 = omega arith in
-    ap (λ (ws : List Write). written ws (sectorsOf (a .g) (l .image))) (sym end)
-    ∙ l .inv .4 v t
-    ∙ first .put-track .ensures .links v t
-    ∙ ap (λ (j : ℕ). written (linksFrom v t j) (sectorsOf (a .g) (a .image .now))) begin
-    ∙ ap (λ (ws : List Write). written ws (sectorsOf (a .g) (a .image .now))) (links-whole v t)
+    let l = c .before .before in
+    let g = begin l .args .g in
+    let v = begin l .pre .0 .valid in
+    let all : l .loop .track ≡ g .tracks = omega (arith, c .if1 .left, l .loop .inv .1) in
+    let end = links-end v (geo g .perTrack * l .loop .track) (omega (arith, v .total, ap (λ (q : ℕ). geo g .perTrack * q) all)) in
+    let from : geo g .perTrack * 0 + 2 ≡ 2 = omega arith in
+    ap (λ (ws : List Write). written ws (sectorsOf g (l .loop .image))) (sym end)
+    ∙ linked-more (first-put l .put-track .ensures) (l .loop .inv .3) .links
+    ∙ ap (λ (ws : List Write). written ws (sectorsOf g (begin l .args .image .now))) (ap (linksFrom g) from ∙ links-whole v)
 
 pub put-chain-spec : {M : Type 1} → statement M
 put-chain-spec =

@@ -27,14 +27,21 @@ slice-aggregate-put c = search needs
 put-requires : tie.Need-put-requires
 put-requires c κs = search needs
 
+nine-bytes : (c : tie.Start) → length (c .args .name .bytes) ≡ 9
+nine-bytes c = search needs
+
+-- the start of the call, seen from where the pointers are known
+abbrev begin : (c : tie.After-pointers) → tie.Start
+begin c = c .before .before .before
+
 sub-free : tie.Need-sub-free
-sub-free c = let start = c .before .before .before .before .before .before .before .before in omega (arith, many (start .pre .0 .valid) (start .pre .1))
+sub-free c = let put = c .before .before .before in omega (arith, many (begin (put .before .before .before) .pre .0 .valid))
 
-cast-t16 : tie.Need-cast-t16
-cast-t16 c = search needs
+cast-t17 : tie.Need-cast-t17
+cast-t17 c = search needs
 
-cast-t19 : tie.Need-cast-t19
-cast-t19 c = search needs
+cast-t20 : tie.Need-cast-t20
+cast-t20 c = search needs
 
 slice-aggregate-put-2 : tie.Need-slice-aggregate-put-2
 slice-aggregate-put-2 c = search needs
@@ -47,7 +54,9 @@ slice-aggregate-put-3 c = search needs
 
 put-requires-3 : tie.Need-put-requires-3
 put-requires-3 c κs =
-    let nine : length (c .before .before .before .before .before .before .before .before .before .before .before .before .before .before .before .before .args .name .bytes) ≡ 9 = search needs in
+    let put2 = c .before .before .before .before .before in
+    let put = put2 .before .before .before .before .before .before in
+    let nine = nine-bytes (begin (put .before .before .before)) in
     search needs
 
 put-version-requires : tie.Need-put-version-requires
@@ -58,25 +67,30 @@ same-length c = search needs
 
 returns : tie.Need-returns
 returns c =
-    let start = c .before .before .before .before .before .before .before .before .before .before .before .before .before .before .before .before .before .before .before .before .before .before .before in
+    let versioned = c .before .before in
+    let named = versioned .before .before .before .before in
+    let counted = named .before .before .before .before .before .before in
+    let pointed = counted .before .before .before .before .before .before in
+    let paired = pointed .before .before .before in
+    let start = begin paired in
     let a = start .args in
     let G = geo (a .g) in
     let d : Disc = sectorsOf (a .g) (a .image .now) in
     let on : 0 < length d = omega (arith, length-cut (form (a .g)) G (a .image .now), start .pre .0 .valid .total, start .pre .0 .valid .some-sectors) in
-    let pairs : List ℕ = c .before .before .before .before .before .before .before .before .before .before .before .before .before .before .before .before .before .before .before .before .before .pointers .result in
+    let pairs : List ℕ = paired .pointers .result in
     let counts : List ℕ = word (a .g .sectors - 2) ++ word 0 in
     let nine : List ℕ = a .name .bytes in
     let one : List ℕ = sets (sector d 0) freePlace pairs in
     let two : List ℕ = sets one freeCountPlace counts in
     let three : List ℕ = sets two discNamePlace nine in
-    c .before .before .put-version .ensures
-    ∙ ap (λ (x : Disc). storedAt x 0 versionPlace version) (c .before .before .before .before .before .before .put3 .ensures)
-    ∙ ap (λ (x : Disc). storedAt (storedAt x 0 discNamePlace nine) 0 versionPlace version) (c .before .before .before .before .before .before .before .before .before .before .before .before .put2 .ensures)
-    ∙ ap (λ (x : Disc). storedAt (storedAt (storedAt x 0 freeCountPlace counts) 0 discNamePlace nine) 0 versionPlace version) (c .before .before .before .before .before .before .before .before .before .before .before .before .before .before .before .before .before .before .put .ensures)
+    versioned .put-version .ensures
+    ∙ ap (λ (x : Disc). storedAt x 0 versionPlace version) (named .put3 .ensures)
+    ∙ ap (λ (x : Disc). storedAt (storedAt x 0 discNamePlace nine) 0 versionPlace version) (counted .put2 .ensures)
+    ∙ ap (λ (x : Disc). storedAt (storedAt (storedAt x 0 freeCountPlace counts) 0 discNamePlace nine) 0 versionPlace version) (pointed .put .ensures)
     ∙ ap (λ (x : Disc). storedAt (storedAt x 0 discNamePlace nine) 0 versionPlace version) (sector-again d 0 freeCountPlace one counts on)
     ∙ ap (λ (x : Disc). storedAt x 0 versionPlace version) (sector-again d 0 discNamePlace two nine on)
     ∙ sector-again d 0 versionPlace three version on
-    ∙ ap (set d 0) (system-is G nine (sector d 0) pairs (a .g .sectors) (start .pre .2) (c .before .before .before .before .before .before .before .before .before .before .before .before .before .before .before .before .before .before .before .before .before .pointers .ensures) (start .pre .0 .valid .total))
+    ∙ ap (set d 0) (system-is G nine (sector d 0) pairs (a .g .sectors) (start .pre .2) (paired .pointers .ensures) (start .pre .0 .valid .total))
 
 pub put-system-spec : {M : Type 1} → statement M
 put-system-spec =
@@ -86,8 +100,8 @@ put-system-spec =
     slice-aggregate-put
     put-requires
     sub-free
-    cast-t16
-    cast-t19
+    cast-t17
+    cast-t20
     slice-aggregate-put-2
     put-requires-2
     slice-aggregate-put-3

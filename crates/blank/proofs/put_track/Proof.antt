@@ -1,52 +1,83 @@
--- `blank::put_track` meets its contract: the writes that are left, written, always give the whole.
+-- `blank::put_track` meets its contract: at each turn the links of the sectors before `here` are written.
 -- Assumes nothing.
 use borrow.Author.Needs.{needs}
 use native.Mathlib.Omega.{arith}
-use Prim.Native.Nat.{ℕ, _+_, _*_, _-_, _≤_, _<_}
-use mathlib.Core.Path.{_≡_, refl, sym, ap, subst, _∙_}
-use mathlib.Core.List.{List}
-use lib.ListN.{length, getD}
-use Rattle.format.specs.Geometry.{Disc, Write, written}
-use Rattle.format.specs.GeometryLaws.{length-cut}
-use Rattle.format.specs.Effects.{passing}
-use Rattle.disc.specs.Meaning.{geo, sectorsOf, Valid, form}
-use Rattle.blank.specs.Meaning.{Ten, Bare}
-use Rattle.blank.specs.Zeros.{bare-set}
-use Rattle.blank.specs.Links.{next-track, track-inside, place-high, place-low, linksFrom, links-step}
+use Prim.Native.Nat.{ℕ, _+_, _*_, _%_, _-_, _≤_, _<_}
+use mathlib.Core.Path.{_≡_, refl, _∙_}
+use lib.ListN.{length, getD, replicate}
+use Rattle.format.specs.Geometry.{sector, sectorNumber}
+use Rattle.format.specs.Effects.{body}
+use Rattle.disc.specs.Meaning.{geo, sectorsOf, Valid, Image, Stop}
+use Rattle.disc.specs.Laws.{stop-sector}
+use Rattle.blank.specs.Links.{next-track, passed-here, Linked, linked-none, linked-more, here-stop, here-bare, linked-here}
 use Rattle.blank.proofs.put_track.Statement.{statement}
 use Rattle.blank.proofs.put_track.Tie as tie
 
 abbrev Inv-loop : tie.InvT-loop
-Inv-loop image₀ g track first i₀ image i =
-    (first ≤ i) × (i ≤ geo g .perTrack) × (length image ≡ length image₀) × Bare (sectorsOf g image)
-    × ((v : Valid g) (t : Ten g)
-    → written (linksFrom v t (geo g .perTrack * track + i)) (sectorsOf g image)
-    ≡ written (linksFrom v t (geo g .perTrack * track + first)) (sectorsOf g image₀))
+Inv-loop image₀ g stops track first i₀ here₀ image i here =
+    (first ≤ i) × (i < geo g .perTrack) × (length image ≡ length image₀) × Stop g (getD (geo g .order) i 0) here
+    × Linked g (geo g .perTrack * track + first) (geo g .perTrack * track + i) image₀ image
 
 abbrev μ-loop : tie.MeasureT-loop
-μ-loop image₀ g track first i₀ image i = geo g .perTrack - i
+μ-loop image₀ g stops track first i₀ here₀ image i here = geo g .perTrack - i
+
+mul-here : tie.Need-mul-here Inv-loop μ-loop
+mul-here c = let pre = c .before .before .pre in omega (arith, pre .3, pre .0 .valid .few-on-track)
+
+shared-slice-read-here : tie.Need-shared-slice-read-here Inv-loop μ-loop
+shared-slice-read-here c = let pre = c .before .before .before .pre in omega (arith, pre .1 .long, pre .3, pre .0 .valid .few-on-track)
 
 loop-holds : tie.Need-loop-holds Inv-loop μ-loop
-loop-holds c = let pre = c .before .pre in (omega arith, pre .3, refl, pre .5, λ v t. refl)
+loop-holds c =
+    let pre = c .before .before .before .pre in
+    (omega arith, pre .3, refl, pre .1 .at _ (pre .3), linked-none _ _ _ (pre .5))
 
-put-passed-requires : tie.Need-put-passed-requires Inv-loop μ-loop
-put-passed-requires c κs =
-    let l = c .before .before .before .loop in
-    let start = c .before .before .before .before .before in
-    let g = start .args .g in
-    let v = start .pre .0 .valid in
-    let t = start .pre .1 in
-    let h = c .before .if1 .taken in
-    let k : ℕ = geo g .perTrack * start .args .track + l .i in
-    let on = track-inside v t (start .args .track) (l .i) (start .pre .2) h in
-    let inside : getD (passing (geo g)) k 0 < length (sectorsOf g (l .image)) =
-    omega (arith, place-high v t k on, length-cut (form g) (geo g) (l .image), v .total) in (
-      record { valid = v; long = l .inv .2 ∙ start .pre .0 .long },
-      t,
-      start .pre .2,
-      h,
-      l .inv .3 .zeros _ (place-low v t k (omega (arith, start .pre .4, l .inv .0)) on) inside,
-    )
+add-if1 : tie.Need-add-if1 Inv-loop μ-loop
+add-if1 c = search needs
+
+add-next : tie.Need-add-next Inv-loop μ-loop
+add-next c = search needs
+
+-- ---- at the loop
+
+abbrev begin : (l : tie.At-loop Inv-loop μ-loop) → tie.Start Inv-loop μ-loop
+begin l = l .before .before .before .before
+
+valid : (l : tie.At-loop Inv-loop μ-loop) → Valid (begin l .args .g)
+valid l = begin l .pre .0 .valid
+
+image-at : (l : tie.At-loop Inv-loop μ-loop) → Image (begin l .args .g) (l .loop .image)
+image-at l = record { valid = valid l; long = l .loop .inv .2 ∙ begin l .pre .0 .long }
+
+stop-at : (l : tie.At-loop Inv-loop μ-loop) → Stop (begin l .args .g) (l .loop .here % 256) (l .loop .here)
+stop-at l = here-stop (valid l) (begin l .args .track) (l .loop .i) (begin l .pre .2) (l .loop .inv .1) _ (l .loop .inv .3)
+
+bare-at : (l : tie.At-loop Inv-loop μ-loop)
+    → body (sector (sectorsOf (begin l .args .g) (l .loop .image)) (sectorNumber (geo (begin l .args .g)) (begin l .args .track) (l .loop .here % 256)))
+    ≡ replicate 254 0
+bare-at l =
+    here-bare (valid l) (begin l .args .track) (l .loop .i) (begin l .pre .2) (l .loop .inv .1) _ (l .loop .inv .3)
+    (omega (arith, begin l .pre .4, l .loop .inv .0)) _ (l .loop .inv .4 .bare)
+
+mul-next : tie.Need-mul-next Inv-loop μ-loop
+mul-next c = let pre = begin (c .before .before) .pre in omega (arith, c .if1 .taken, pre .0 .valid .few-on-track)
+
+shared-slice-read-next : tie.Need-shared-slice-read-next Inv-loop μ-loop
+shared-slice-read-next c =
+    let tested = c .before in
+    let pre = begin (tested .before .before) .pre in
+    omega (arith, pre .1 .long, tested .if1 .taken, pre .0 .valid .few-on-track)
+
+cast-t18 : tie.Need-cast-t18 Inv-loop μ-loop
+cast-t18 c = search needs
+
+sector-of-stop-requires : tie.Need-sector-of-stop-requires Inv-loop μ-loop
+sector-of-stop-requires c κs = search needs
+
+link-to-requires : tie.Need-link-to-requires Inv-loop μ-loop
+link-to-requires c κs =
+    let l = c .before .before .before .before .before in
+    (image-at l, begin l .pre .2, stop-at l, bare-at l)
 
 add-i : tie.Need-add-i Inv-loop μ-loop
 add-i c = search needs
@@ -57,38 +88,47 @@ loop-less c = search needs
 loop-again : tie.Need-loop-again Inv-loop μ-loop
 loop-again c =
     let put = c .before .before in
-    let h = put .before .before .if1 .taken in
-    let l = put .before .before .before .before .loop in
-    let start = put .before .before .before .before .before .before in
-    let g = start .args .g in
-    let d : Disc = sectorsOf g (l .image) in
-    let k : ℕ = geo g .perTrack * start .args .track + l .i in
-    let next : geo g .perTrack * start .args .track + (l .i + 1) ≡ k + 1 = omega arith in (
-      omega arith,
-      omega arith,
+    let read = put .before .before in
+    let more = read .before .before .if1 .taken in
+    let l = read .before .before .before .before in
+    let i : ℕ = l .loop .i in
+    let pre = begin l .pre in
+    let track : ℕ = begin l .args .track in
+    let next = pre .1 .at (i + 1) more in
+    let g = begin l .args .g in
+    let along : geo g .perTrack * track + (i + 1) ≡ geo g .perTrack * track + i + 1 = omega arith in
+    let to = passed-here (valid l) track (i + 1) (pre .2) more _ refl (read .sector-of-stop .ensures ∙ stop-sector (valid l) _ _ next) in
+    let one = linked-here (valid l) track i (pre .2) (l .loop .inv .1) _ (l .loop .inv .3) _ along _ to _ _ (l .loop .inv .4 .bare) (put .link-to .ensures) in (
+      omega (arith, l .loop .inv .0),
+      more,
       search needs,
-      subst Bare (sym (put .put-passed .ensures)) (bare-set d _ _ _ (l .inv .3)),
-      λ v t. ap (λ (j : ℕ). written (linksFrom v t j) (sectorsOf g (put .put-passed .last .0))) next
-          ∙ ap (written (linksFrom v t (k + 1))) (put .put-passed .ensures)
-          ∙ ap (λ (ws : List Write). written ws d) (sym (links-step v t k (track-inside v t (start .args .track) (l .i) (start .pre .2) h)))
-          ∙ l .inv .4 v t,
+      next,
+      linked-more (l .loop .inv .4) one,
     )
+
+after-track-requires : tie.Need-after-track-requires Inv-loop μ-loop
+after-track-requires c κs = let pre = begin (c .before .before .before) .pre in (pre .0 .valid, pre .1, pre .2)
+
+link-to-requires-2 : tie.Need-link-to-requires-2 Inv-loop μ-loop
+link-to-requires-2 c κs =
+    let l = c .before .before .before .before in
+    (image-at l, begin l .pre .2, stop-at l, bare-at l)
 
 same-length : tie.Need-same-length Inv-loop μ-loop
 same-length c = search needs
 
 returns : tie.Need-returns Inv-loop μ-loop
 returns c =
-    let l = c .before .before .loop in
-    let start = c .before .before .before .before in
-    let g = start .args .g in
-    record {
-      bare = l .inv .3;
-      links = λ v t.
-          let whole : geo g .perTrack * (start .args .track + 1) ≡ geo g .perTrack * start .args .track + l .i =
-          omega (arith, next-track v t (start .args .track), c .if1 .left, l .inv .1) in
-          ap (λ (j : ℕ). written (linksFrom v t j) (sectorsOf g (l .image))) whole ∙ l .inv .4 v t;
-    }
+    let put = c .before .before in
+    let l = put .before .before .before .before .before in
+    let i : ℕ = l .loop .i in
+    let g = begin l .args .g in
+    let track : ℕ = begin l .args .track in
+    let last : geo g .perTrack * (track + 1) ≡ geo g .perTrack * track + i + 1 =
+    omega (arith, next-track (valid l) track, put .before .before .before .if1 .left, l .loop .inv .1) in
+    linked-more (l .loop .inv .4)
+    (linked-here (valid l) track i (begin l .pre .2) (l .loop .inv .1) _ (l .loop .inv .3) _ last _ (put .before .after-track .ensures) _ _
+    (l .loop .inv .4 .bare) (put .link-to2 .ensures))
 
 pub put-track-spec : {M : Type 1} → statement M
 put-track-spec =
@@ -96,10 +136,20 @@ put-track-spec =
     (tie.spec
     Inv-loop
     μ-loop
+    mul-here
+    shared-slice-read-here
     loop-holds
-    put-passed-requires
+    add-if1
+    add-next
+    mul-next
+    shared-slice-read-next
+    cast-t18
+    sector-of-stop-requires
+    link-to-requires
     add-i
     loop-less
     loop-again
+    after-track-requires
+    link-to-requires-2
     same-length
     returns)

@@ -1,72 +1,72 @@
 -- `disc::geometry_of` meets its contract.
 -- Assumes nothing.
-use mathlib.Core.Path.{sym, ap, _∙_}
+use mathlib.Core.Path.{_≡_, sym, _∙_}
+use mathlib.Core.Bool.{true}
+use native.Mathlib.Omega.{arith}
+use Prim.Native.Nat.{_*_, _≤_}
+use native.Mathlib.Nat.{mul-le-mul}
 use borrow.Author.Needs.{needs}
-use Rattle.format.specs.Geometry.{ten}
-use Rattle.format.specs.GeometryLaws.{geometry-rest, geometry-none, geometry-many, geometry-done}
-use Rattle.disc.specs.Meaning.{sized}
-use Rattle.disc.specs.Laws.{as-known, as-unknown}
+use borrow.Author.Tests.{not-true, not-false}
+use Rattle.disc.specs.Meaning.{known}
+use Rattle.disc.specs.Laws.{known-is, sized-unknown, sized-none, sized-many, sized-done}
 use Rattle.disc.proofs.geometry_of.Statement.{statement}
 use Rattle.disc.proofs.geometry_of.Tie as tie
 
+is-known-requires : tie.Need-is-known-requires
+is-known-requires c κs = search needs
+
 returns : tie.Need-returns
-returns c = sym (as-unknown _ _ (c .if1 .taken))
+returns c = let asked = c .before in sym (sized-unknown _ _ (sym (asked .is-known .ensures) ∙ not-true _ (c .if1 .taken)))
 
-mul-tracks : tie.Need-mul-tracks
-mul-tracks c = search needs
+-- there are such discs
+is-known-at : (c : tie.After-struct-known) → known (c .before .before .before .args .stated) ≡ true
+is-known-at c = let asked = c .before .before in sym (asked .is-known .ensures) ∙ not-false _ (c .before .if1 .left)
 
-div-tracks : tie.Need-div-tracks
-div-tracks c = search needs
+-- what that says of the numbers stated
+numbers-at : (c : tie.After-struct-known)
+    → let s = c .before .before .before .args .stated in
+    (9 ≤ s .sectors) × (s .sectors ≤ 10) × (s .arrangement ≤ 1) × (10 * s .arrangement ≤ s .sectors)
+numbers-at c = known-is (c .before .before .before .args .stated) (is-known-at c)
 
-mul-if2 : tie.Need-mul-if2
-mul-if2 c = search needs
+cast-per-track : tie.Need-cast-per-track
+cast-per-track c = search needs
 
-rem-if2 : tie.Need-rem-if2
-rem-if2 c = search needs
+tracks-in-requires : tie.Need-tracks-in-requires
+tracks-in-requires c κs = let k = numbers-at c in (k .0, k .1)
 
 returns-2 : tie.Need-returns-2
-unfolding ten
-returns-2 c =
-    ap (sized _) (sym (geometry-rest ten _ (c .if2 .taken))) ∙ sym (as-known _ _ (c .before .if1 .left))
+returns-2 c = let divided = c .before in sym (sized-none _ (is-known-at (divided .before)) _ _ (divided .tracks-in .ensures) (c .if2 .taken))
 
 returns-3 : tie.Need-returns-3
-unfolding ten
 returns-3 c =
-    ap (sized _) (sym (geometry-none ten _ (c .before .if2 .left) (c .if3 .taken)))
-    ∙ sym (as-known _ _ (c .before .before .if1 .left))
+    let some = c .before in
+    let divided = some .before in
+    sym (sized-many _ (is-known-at (divided .before)) _ _ (divided .tracks-in .ensures) (some .if2 .left) (c .if3 .taken))
 
-returns-4 : tie.Need-returns-4
-unfolding ten
-returns-4 c =
-    ap (sized _) (sym (geometry-many ten _ (c .before .before .if2 .left) (c .before .if3 .left) (c .if4 .taken)))
-    ∙ sym (as-known _ _ (c .before .before .before .if1 .left))
-
-mul-t6 : tie.Need-mul-t6
-mul-t6 c = search needs
+mul-t8 : tie.Need-mul-t8
+mul-t8 c = omega (arith, mul-le-mul (numbers-at (c .before .before .before) .1) (c .if3 .left))
 
 places-of-requires : tie.Need-places-of-requires
-places-of-requires c κs = search needs
+places-of-requires c κs = numbers-at (c .before .before .before) .2
 
-returns-5 : tie.Need-returns-5
-unfolding ten
-returns-5 c =
-    let many = c .before in
+returns-4 : tie.Need-returns-4
+returns-4 c =
+    let few = c .before in
+    let some = few .before in
+    let divided = some .before in
     rw (c .places-of .ensures)
-    (ap (sized _) (sym (geometry-done ten _ (many .before .before .if2 .left) (many .before .if3 .left) (many .if4 .left)))
-    ∙ sym (as-known _ _ (many .before .before .before .if1 .left)))
+    (sym (sized-done _ (is-known-at (divided .before)) _ _ (divided .tracks-in .ensures) (some .if2 .left) (few .if3 .left)))
 
 pub geometry-of-spec : {M : Type 1} → statement M
 geometry-of-spec =
     tie.close
     (tie.spec
+    is-known-requires
     returns
-    mul-tracks
-    div-tracks
-    mul-if2
-    rem-if2
+    cast-per-track
+    tracks-in-requires
     returns-2
     returns-3
-    returns-4
-    mul-t6
+    mul-t8
     places-of-requires
-    returns-5)
+    returns-4)

@@ -4,8 +4,9 @@ use borrow.Author.Needs.{needs}
 use native.Mathlib.Omega.{arith}
 use Prim.Native.Nat.{_+_, _-_, _≤_}
 use mathlib.Core.Path.{_≡_}
-use Rattle.format.specs.Geometry.{ten}
-use Rattle.disc.specs.Laws.{placesLeft, places-step, places-done, order-range}
+use Rattle.format.specs.Geometry.{stated, tenMoved, ten}
+use Rattle.format.specs.Formats.{ten-good, order-range}
+use Rattle.disc.specs.Laws.{placesLeft, places-step, places-done}
 use Rattle.disc.proofs.moved_places.Statement.{statement}
 use Rattle.disc.proofs.moved_places.Tie as tie
 
@@ -22,27 +23,23 @@ array-read-places : tie.Need-array-read-places Inv-loop μ-loop
 array-read-places c = search needs
 
 cast-places : tie.Need-cast-places Inv-loop μ-loop
-unfolding ten
-cast-places c = omega (arith, order-range (c .before .loop .i) (c .loop-test .taken))
-
-sub-places : tie.Need-sub-places Inv-loop μ-loop
-unfolding ten
-sub-places c = omega (arith, order-range (c .before .loop .i) (c .loop-test .taken))
+unfolding stated tenMoved ten
+cast-places c = omega (arith, order-range ten-good (c .before .loop .i) (c .loop-test .taken))
 
 mul-places : tie.Need-mul-places Inv-loop μ-loop
-unfolding ten
-mul-places c = omega (arith, order-range (c .before .loop .i) (c .loop-test .taken))
+unfolding stated tenMoved ten
+mul-places c = omega (arith, order-range ten-good (c .before .loop .i) (c .loop-test .taken))
 
 add-places : tie.Need-add-places Inv-loop μ-loop
-unfolding ten
-add-places c = omega (arith, order-range (c .before .loop .i) (c .loop-test .taken))
+unfolding stated tenMoved ten
+add-places c = omega (arith, order-range ten-good (c .before .loop .i) (c .loop-test .taken))
 
 shl-places : tie.Need-shl-places Inv-loop μ-loop
-unfolding ten
-shl-places c = omega (arith, order-range (c .before .loop .i) (c .loop-test .taken))
+unfolding stated tenMoved ten
+shl-places c = omega (arith, order-range ten-good (c .before .loop .i) (c .loop-test .taken))
 
 add-places-2 : tie.Need-add-places-2 Inv-loop μ-loop
-unfolding ten
+unfolding stated tenMoved ten
 add-places-2 c = omega (arith, places-step (c .before .loop .i) (c .loop-test .taken))
 
 add-i : tie.Need-add-i Inv-loop μ-loop
@@ -52,7 +49,7 @@ loop-less : tie.Need-loop-less Inv-loop μ-loop
 loop-less c = search needs
 
 loop-again : tie.Need-loop-again Inv-loop μ-loop
-unfolding ten
+unfolding stated tenMoved ten
 loop-again c = (omega arith, omega (arith, places-step (c .before .loop .i) (c .loop-test .taken)))
 
 returns : tie.Need-returns Inv-loop μ-loop
@@ -67,7 +64,6 @@ moved-places-spec =
     loop-holds
     array-read-places
     cast-places
-    sub-places
     mul-places
     add-places
     shl-places

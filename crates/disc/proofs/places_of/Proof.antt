@@ -1,10 +1,10 @@
 -- `disc::places_of` meets its contract.
 -- Assumes nothing.
-use mathlib.Core.Path.{sym, ap, _∙_}
+use mathlib.Core.Path.{_≡_, sym, ap, _∙_}
 use borrow.Author.Needs.{needs}
-use borrow.Author.Tests.{ne-eqb}
-use Rattle.format.specs.Geometry.{ten}
-use Rattle.disc.specs.Meaning.{arrangementOf, placesOf}
+use native.Mathlib.Omega.{arith}
+use Rattle.format.specs.Geometry.{ten, stated}
+use Rattle.disc.specs.Meaning.{placesOf}
 use Rattle.disc.proofs.places_of.Statement.{statement}
 use Rattle.disc.proofs.places_of.Tie as tie
 
@@ -15,8 +15,11 @@ returns : tie.Need-returns
 returns c = c .moved-places .ensures ∙ ap placesOf (sym (c .before .if1 .taken))
 
 returns-2 : tie.Need-returns-2
-unfolding placesOf arrangementOf ten
-returns-2 c = rw (ne-eqb _ 1 (c .if1 .left))
+unfolding placesOf stated ten
+returns-2 c =
+    let start = c .before in
+    let plain : start .args .arrangement ≡ 0 = omega (arith, start .pre, c .if1 .left) in
+    rw plain
 
 pub places-of-spec : {M : Type 1} → statement M
 places-of-spec = tie.close (tie.spec moved-places-requires returns returns-2)

@@ -14,8 +14,11 @@ mul-result c = search needs
 mul-result-2 : tie.Need-mul-result-2
 mul-result-2 c = search needs
 
-offset-after-requires : tie.Need-offset-after-requires
-offset-after-requires c κs = search needs
+add-offset-of : tie.Need-add-offset-of
+add-offset-of c = search needs
+
+offset-of-requires : tie.Need-offset-of-requires
+offset-of-requires c κs = search needs
 
 add-result : tie.Need-add-result
 add-result c = search needs
@@ -24,7 +27,7 @@ returns : tie.Need-returns
 returns c =
     let start = c .before in
     let n : ℕ = start .args .n .0 in
-    subst (λ (p : ℕ). Starts (start .args .g) n (2560 * (n / 10) + p)) (sym (c .offset-after .ensures .0)) (starts (start .pre .0) n (start .pre .1))
+    subst (λ (p : ℕ). Starts (start .args .g) n (2560 * (n / 10) + p)) (sym (c .offset-of .ensures .0)) (starts (start .pre .0) n (start .pre .1))
 
 pub start-of-spec : {M : Type 1} → statement M
-start-of-spec = tie.close (tie.spec mul-result mul-result-2 offset-after-requires add-result returns)
+start-of-spec = tie.close (tie.spec mul-result mul-result-2 add-offset-of offset-of-requires add-result returns)

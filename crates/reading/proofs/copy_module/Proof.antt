@@ -45,12 +45,12 @@ next-of-requires c κs =
     let f = c .before .loop .inv .1 in
     (c .before .before .before .before .before .before .before .before .pre .0 .on-image, c .before .loop .inv .5, followed-leads _ _ _ f (c .loop-test .taken))
 
-copy-part-requires-2 : tie.Need-copy-part-requires-2 Inv-loop μ-loop
-copy-part-requires-2 c κs =
+copy-later-requires : tie.Need-copy-later-requires Inv-loop μ-loop
+copy-later-requires c κs =
     let loop = c .before .before .before .loop in
     let pre = c .before .before .before .before .before .before .before .before .before .before .pre in
     let long = copied-long (c .before .before .before .before .before .before .copy-part .ensures) in
-    (pre .0 .on-image, c .before .next-of .ensures .1, omega arith, loop .inv .2, omega (arith, long, loop .inv .3, pre .2))
+    (pre .0 .on-image, c .before .next-of .ensures .1, loop .inv .2, omega (arith, long, loop .inv .3, pre .2))
 
 add-j : tie.Need-add-j Inv-loop μ-loop
 add-j c = search needs
@@ -68,7 +68,7 @@ loop-again c =
     let m : ℕ = next-of .result .number .0 in
     let on = c .before .before .before .before .before .loop-test .taken in
     let link = next-of .ensures .0 in
-    let copied = c .before .before .copy-part2 .ensures in (
+    let copied = c .before .before .copy-later .ensures in (
       omega arith,
       followed-step (loop .s .number .0) (a .count) j (inv .1) on m link (next-of .ensures .1 .on),
       copied .inside,
@@ -109,7 +109,7 @@ copy-module-spec =
     copy-part-requires
     loop-holds
     next-of-requires
-    copy-part-requires-2
+    copy-later-requires
     add-j
     loop-less
     loop-again

@@ -18,8 +18,8 @@ enum-told-2 c = search needs
 enum-known-rule : tie.Need-enum-known-rule
 enum-known-rule c = search needs
 
-cast-t7 : tie.Need-cast-t7
-cast-t7 c = search needs
+cast-t8 : tie.Need-cast-t8
+cast-t8 c = search needs
 
 returns : tie.Need-returns
 returns c = sym (ap answerOf (c .enum-told .given .1)) ∙ c .before .before .check .ensures .numbers
@@ -38,7 +38,7 @@ tandos-check-spec =
     enum-told
     enum-told-2
     enum-known-rule
-    cast-t7
+    cast-t8
     returns
     returns-2
     returns-3)

@@ -6,7 +6,7 @@ use native.Mathlib.Omega.{arith}
 use lib.ListN.{take, drop}
 use borrow.Author.Needs.{needs}
 use Rattle.format.specs.Geometry.{Part, bytesOf}
-use Rattle.format.specs.MovingLaws.{stated-arranged}
+use Rattle.format.specs.Formats.{stated-arranged}
 use Rattle.format.specs.Calls.{viewPart}
 use Rattle.view.specs.Laws.{view-part, refused-part}
 use Rattle.view.proofs.view.Statement.{statement}
@@ -25,7 +25,7 @@ add-end : tie.Need-add-end
 add-end c =
     let a = c .before .before .before .before .before .args in
     let at = sym (c .before .before .before .start-of-view .ensures) ∙ c .before .at .given .1 in
-    omega (arith, view-part _ (a .image .now) (a .track) (a .sector) (stated-arranged _ _) _ at .1)
+    omega (arith, view-part _ (a .image .now) (a .track) (a .sector) (stated-arranged _ _ _) _ at .1)
 
 sub-result : tie.Need-sub-result
 sub-result c = search needs
@@ -37,7 +37,7 @@ part-result-end : tie.Need-part-result-end
 part-result-end c =
     let a = c .before .before .before .before .before .args in
     let at = sym (c .before .before .before .start-of-view .ensures) ∙ c .before .at .given .1 in
-    omega (arith, view-part _ (a .image .now) (a .track) (a .sector) (stated-arranged _ _) _ at .1)
+    omega (arith, view-part _ (a .image .now) (a .track) (a .sector) (stated-arranged _ _ _) _ at .1)
 
 enum-told : tie.Need-enum-told
 enum-told c = search needs
@@ -56,7 +56,7 @@ unfolding viewPart
 returns c =
     let a = c .before .before .before .before .before .before .args in
     let at = sym (c .before .before .before .before .start-of-view .ensures) ∙ c .before .before .at .given .1 in
-    let part = view-part _ (a .image .now) (a .track) (a .sector) (stated-arranged _ _) _ at in
+    let part = view-part _ (a .image .now) (a .track) (a .sector) (stated-arranged _ _ _) _ at in
     let start : ℕ = c .before .before .at .given .0 .0 in
     let size : start + 254 - start ≡ 254 = omega arith in
     record {

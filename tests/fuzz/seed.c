@@ -1,0 +1,99 @@
+#include "seed.h"
+
+#include <stdarg.h>
+#include <stdio.h>
+#include <stdlib.h>
+
+#define SEED_MOST 4096
+
+const char *const kind_names[STATED_KINDS] = {
+    [STATED_NINE] = "nine", [STATED_PLAIN] = "plain", [STATED_MOVED] = "moved"
+};
+
+const char *seed_folder;
+enum stated_kind seed_kind;
+int seed_sectors;
+
+static uint8_t seed[SEED_MOST];
+static size_t seed_length;
+
+void choose_kind(enum stated_kind kind)
+{
+    seed_kind = kind;
+    seed_sectors = kind == STATED_NINE ? 9 : 10;
+}
+
+void begin_empty(void)
+{
+    seed_length = 0;
+}
+
+void begin(int tracks)
+{
+    begin_empty();
+    put(START_BLANK, seed_kind, tracks, -1);
+}
+
+void put(int byte, ...)
+{
+    va_list bytes;
+
+    va_start(bytes, byte);
+    for (; byte >= 0 && seed_length < SEED_MOST; byte = va_arg(bytes, int))
+        seed[seed_length++] = (uint8_t)byte;
+    va_end(bytes);
+}
+
+static void put_save(int name)
+{
+    put(COMMAND_SAVE, name, 1, 0x00, 0x00, 0x00, 0x20, -1);
+}
+
+void save(int name, enum sheet sheet)
+{
+    put_save(name);
+    put((int)sheet, name, -1);
+}
+
+void save_sectors(int name, int sectors, int more)
+{
+    int length = 245 + 253 * (sectors - 1) + more;
+
+    put_save(name);
+    put(SHEET_LENGTH, length & 0xFF, length >> 8, name, -1);
+}
+
+void save_many(int first, int count)
+{
+    put(COMMAND_SAVES, count, first, SHEET_1, 1, -1);
+}
+
+void resize(int sectors, int more)
+{
+    int length = 256 * sectors + more;
+
+    put(COMMAND_RESIZE, length & 0xFF, length >> 8 & 0xFF, length >> 16, -1);
+}
+
+void put_calls(int name)
+{
+    put(COMMAND_LIST, BUFFER_LARGEST, COMMAND_READ, name, BUFFER_LARGEST, -1);
+    put(COMMAND_VIEW, 0, 1, COMMAND_RENAME, name, name + 1, -1);
+    put(COMMAND_PROTECT, name, 1, COMMAND_DELETE, name, COMMAND_BLANK, 0, -1);
+    save(name + 3, SHEET_1);
+}
+
+void end(const char *name)
+{
+    char path[1024];
+    FILE *file;
+    int length = snprintf(path, sizeof path, "%s/%s-%s", seed_folder,
+                          kind_names[seed_kind], name);
+
+    file = length < (int)sizeof path ? fopen(path, "wb") : NULL;
+    if (file == NULL || fwrite(seed, 1, seed_length, file) != seed_length ||
+        fclose(file) != 0) {
+        perror(name);
+        exit(EXIT_FAILURE);
+    }
+}

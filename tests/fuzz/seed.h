@@ -1,0 +1,42 @@
+/* One first input of the fuzzer, byte by byte, and the file that it goes to. */
+#ifndef SEED_H
+#define SEED_H
+
+#include "input.h"
+
+extern const char *seed_folder;
+
+extern const char *const kind_names[STATED_KINDS];
+
+/* What the seeds that are written now state, and its sectors a track. */
+extern enum stated_kind seed_kind;
+extern int seed_sectors;
+
+void choose_kind(enum stated_kind kind);
+
+/* Begins a seed without a byte. */
+void begin_empty(void);
+
+/* Begins one with a blank disc; 0 to 3 are one to four tracks. */
+void begin(int tracks);
+
+/* Appends bytes, given as int, up to the first that is negative. */
+void put(int byte, ...);
+
+void save(int name, enum sheet sheet);
+
+/* One file that fills so many sectors, and `more` bytes. */
+void save_sectors(int name, int sectors, int more);
+
+/* Files of one sector. */
+void save_many(int first, int count);
+
+/* An image of so many sectors, and `more` bytes. */
+void resize(int sectors, int more);
+
+/* Each call but check, on the file of this name where it takes one. */
+void put_calls(int name);
+
+void end(const char *name);
+
+#endif
