@@ -233,34 +233,47 @@ uint32_t try_step(struct disc *disc, unsigned step)
     }
 }
 
-void expect_refused_1(struct disc *disc)
+/* The arguments of one call each, of every call. */
+struct arguments {
+    const char *name, *new_name, *disc_name;
+    uint32_t page, track, sector;
+    size_t sheet_len, list_len, read_len;
+};
+
+static void expect_1_of_all(struct disc *disc, const struct arguments *given)
 {
     struct disc expected = *disc;
+    struct text name = text(given->name), new_name = text(given->new_name);
 
     EXPECT_NUMBER(1, try_check(disc).number);
-    EXPECT_NUMBER(1, try_list(disc, 9752).number);
-    EXPECT_NUMBER(1, try_read(disc, text("A"), 245).number);
-    EXPECT_NUMBER(1, try_save(disc, text("C"), 0, 0, 0, bytes(sheet, 1)));
-    EXPECT_NUMBER(1, try_delete(disc, text("A")));
-    EXPECT_NUMBER(1, try_rename(disc, text("A"), text("C")));
-    EXPECT_NUMBER(1, try_protect(disc, text("A"), 1));
-    EXPECT_NUMBER(1, try_blank(disc, text("DISC")));
-    EXPECT_NUMBER(1, try_view_number(disc, 0, 1));
+    EXPECT_NUMBER(1, try_list(disc, given->list_len).number);
+    EXPECT_NUMBER(1, try_read(disc, name, given->read_len).number);
+    EXPECT_NUMBER(1, try_save(disc, new_name, given->page, 0, 0,
+                              bytes(sheet, given->sheet_len)));
+    EXPECT_NUMBER(1, try_delete(disc, name));
+    EXPECT_NUMBER(1, try_rename(disc, name, new_name));
+    EXPECT_NUMBER(1, try_protect(disc, name, 1));
+    EXPECT_NUMBER(1, try_blank(disc, text(given->disc_name)));
+    EXPECT_NUMBER(1, try_view_number(disc, given->track, given->sector));
     expect_disc("disc after refusals", &expected, disc);
+}
+
+void expect_refused_1(struct disc *disc)
+{
+    static const struct arguments right = {
+        .name = "A", .new_name = "C", .disc_name = "DISC", .sector = 1,
+        .sheet_len = 1, .list_len = 9752, .read_len = 245
+    };
+
+    expect_1_of_all(disc, &right);
 }
 
 void expect_refused_1_first(struct disc *disc)
 {
-    struct disc expected = *disc;
+    static const struct arguments wrong = {
+        .name = "X.", .new_name = "X.", .disc_name = "A.B", .page = 8,
+        .track = 255, .sector = 11
+    };
 
-    EXPECT_NUMBER(1, try_check(disc).number);
-    EXPECT_NUMBER(1, try_list(disc, 0).number);
-    EXPECT_NUMBER(1, try_read(disc, text("X."), 0).number);
-    EXPECT_NUMBER(1, try_save(disc, text("X."), 8, 0, 0, bytes(sheet, 0)));
-    EXPECT_NUMBER(1, try_delete(disc, text("X.")));
-    EXPECT_NUMBER(1, try_rename(disc, text("X."), text("A")));
-    EXPECT_NUMBER(1, try_protect(disc, text("X."), 1));
-    EXPECT_NUMBER(1, try_blank(disc, text("A.B")));
-    EXPECT_NUMBER(1, try_view_number(disc, 255, 11));
-    expect_disc("disc after refusals", &expected, disc);
+    expect_1_of_all(disc, &wrong);
 }

@@ -234,21 +234,24 @@ def _():
           does("view", "plain.img", "0/10").out)
 
 
+def gives_no_hint(image, options):
+    """Of a disc that is unsound however it is stated, no command says that it is sound."""
+    for command, rest in NEEDS_SOUND.items():
+        answer = is_refused(3, image, command, image, *rest, *options, given=b"x")
+        equal("the disc is sound" in answer.error, False, answer.error)
+    for arguments in (["check", image], ["map", image], ["map", image, "--svg", "-"]):
+        answer = tandos(*arguments, *options)
+        equal(b"the disc is sound" in answer.out, False)
+        equal("the disc is sound" in answer.error, False)
+    does("view", image, "0/1", *options)
+
+
 @case("hint: none where the disc is unsound in both, or is not asked about")
 def _():
     write_both(miscounted())
     for image in ("plain.img", "moved.img"):
         for options in ([], ["--moved"]):
-            for command, rest in NEEDS_SOUND.items():
-                answer = is_refused(3, image, command, image, *rest, *options,
-                                    given=b"x")
-                equal("the disc is sound" in answer.error, False, answer.error)
-            for arguments in (["check", image], ["map", image],
-                              ["map", image, "--svg", "-"]):
-                answer = tandos(*arguments, *options)
-                equal(b"the disc is sound" in answer.out, False)
-                equal("the disc is sound" in answer.error, False)
-            does("view", image, "0/1", *options)
+            gives_no_hint(image, options)
     write_both(example())
     answer = is_refused(2, "moved.img", "delete", "moved.img", "X.")
     equal("the disc is sound" in answer.error, False, answer.error)

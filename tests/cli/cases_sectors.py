@@ -5,7 +5,7 @@ import json
 import random
 import xml.etree.ElementTree as ElementTree
 
-from cases_arrangement import NEEDS_SOUND
+from cases_arrangement import NEEDS_SOUND, gives_no_hint
 from cases_map import (SVG, check_svg, check_text_map, corner, damaged_disc,
                        sound_disc, watched, with_history)
 from cases_usage import COMMANDS
@@ -420,16 +420,7 @@ def _():
     write_kinds(*bad)
     for image in ("nine.img", "plain.img", "moved.img"):
         for options in KINDS.values():
-            for command, rest in NEEDS_SOUND.items():
-                answer = is_refused(3, image, command, image, *rest, *options,
-                                    given=b"x")
-                equal("the disc is sound" in answer.error, False, answer.error)
-            for arguments in (["check", image], ["map", image],
-                              ["map", image, "--svg", "-"]):
-                answer = tandos(*arguments, *options)
-                equal(b"the disc is sound" in answer.out, False)
-                equal("the disc is sound" in answer.error, False)
-            does("view", image, "0/1", *options)
+            gives_no_hint(image, options)
     write_same_length()
     for image, options, _ in misstated():
         answer = is_refused(2, image, "delete", image, "X.", *options)
