@@ -45,7 +45,14 @@ static const struct refusal refusals[] = {
         "65,536 bytes are enough for any file, 9,752 for any list." },
     [TANDOS_NO_SECTOR] = { "NO SECTOR",
         "There is no such sector on the disc: give a track from 0 to the last "
-        "one and a sector from 1 to the last of a track." }
+        "one and a sector from 1 to the last of a track." },
+    [TANDOS_BAD_SHEET] = { "BAD SHEET",
+        "The bytes are not a sheet of records, or there are not 500 totals: "
+        "give one whole sheet, with workers from 1 to 500 and its end as the "
+        "last byte, and a table of 500 totals." },
+    [TANDOS_TOTAL] = { "TOTAL",
+        "A worker's total is, or would become, more than 1,000,000,000: "
+        "begin new totals from zero, or correct the one that is too large." }
 };
 
 static const char *const rules[] = {

@@ -53,6 +53,9 @@ static enum status take_option(const char *command, const struct option *option,
         *value = "";
         return expect_no_value(command, option, rest);
     }
+    if (*value != NULL)
+        return say_misuse(command, "there is no use for a second option",
+                          option->word);
     if (*rest != '\0') {
         *value = *rest == '=' ? rest + 1 : rest;
         return STATUS_DONE;

@@ -11,7 +11,7 @@
 
 /* Beside --help and the options below, which are parsed for every
  * subcommand. */
-#define MAX_OPTIONS 3
+#define MAX_OPTIONS 5
 
 /* The options that state the kind of disc: --moved and --sectors. */
 enum { MOVED_OPTION, SECTORS_OPTION, KIND_OPTIONS };

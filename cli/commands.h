@@ -37,5 +37,6 @@ extern const struct command check_command;
 extern const struct command view_command;
 extern const struct command map_command;
 extern const struct command rearrange_command;
+extern const struct command totals_command;
 
 #endif

@@ -1,11 +1,11 @@
 #include "image.h"
 
-#include <errno.h>
 #include <fcntl.h>
 #include <string.h>
 #include <unistd.h>
 
 #include "bytes.h"
+#include "lock.h"
 #include "message.h"
 #include "replace.h"
 
@@ -31,42 +31,6 @@ enum status load_image(struct image *image, const char *path, enum kind kind)
     if (!is_standard)
         close(file);
     return status;
-}
-
-/* Waits for the lock. A file system without locks is worked on without. */
-static void lock_file(int file)
-{
-    struct flock lock = { 0 };
-
-    lock.l_type = F_WRLCK;
-    lock.l_whence = SEEK_SET;
-    while (fcntl(file, F_SETLKW, &lock) != 0 && errno == EINTR)
-        continue;
-}
-
-/* Another command may have replaced the file while this one waited for its
- * lock: the lock is then on a file that no path leads to any more. */
-static bool is_still_at(const char *path, int file)
-{
-    struct stat opened, named;
-
-    return fstat(file, &opened) == 0 && stat(path, &named) == 0 &&
-           opened.st_dev == named.st_dev && opened.st_ino == named.st_ino;
-}
-
-/* -1 with errno. */
-static int open_locked(const char *path)
-{
-    for (;;) {
-        int file = open(path, O_RDWR);
-
-        if (file < 0)
-            return -1;
-        lock_file(file);
-        if (is_still_at(path, file))
-            return file;
-        close(file);
-    }
 }
 
 enum status load_image_for_change(struct image *image, const char *path,

@@ -29,11 +29,8 @@ struct image {
 /* For the commands that only read: "-" is standard input. */
 enum status load_image(struct image *image, const char *path, enum kind kind);
 
-/*
- * For the commands that change the image. The file is locked until the process
- * ends: of two commands at once the second one waits, and then reads what the
- * first one wrote. Without that the first one's change would be lost.
- */
+/* For the commands that change the image: its file is locked until the process
+ * ends. */
 enum status load_image_for_change(struct image *image, const char *path,
                                   enum kind kind, const char *command);
 

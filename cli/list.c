@@ -6,32 +6,17 @@
 #include "image.h"
 #include "kind.h"
 #include "message.h"
+#include "records.h"
 #include "text.h"
 
 enum { TABLE, JSON };
 
-/* The fields of a list's records. */
+/* The fields of a list's first record, and what is counted. */
 struct disc_record {
     const uint8_t *name;
     unsigned tracks, free_count, used_count, files;
     const struct kind_marks *marks;
 };
-
-struct file_record {
-    const uint8_t *name;
-    unsigned sectors;
-    bool is_protected;
-};
-
-static struct file_record file_record(const uint8_t *record)
-{
-    struct file_record file;
-
-    file.name = record + 1;
-    file.sectors = word_at(record + 10);
-    file.is_protected = record[12] == TANDOS_ATTRIBUTE_PROTECTED;
-    return file;
-}
 
 static struct disc_record disc_record(const struct image *image,
                                       const uint8_t *records, size_t length)

@@ -19,6 +19,38 @@ enum status say_refused(const char *path, uint32_t number, const char *hint)
     return STATUS_REFUSED;
 }
 
+enum status say_file_refused(const char *path, const char *name,
+                             uint32_t number, const char *what,
+                             const char *hint)
+{
+    fprintf(stderr, "tandos: %s: %s: refused with %lu, %s. %s%s\n",
+            input_name(path), name, (unsigned long)number,
+            tandos_refusal_name(number), what, hint);
+    return STATUS_REFUSED;
+}
+
+enum status say_no_match(const char *command, const char *pattern)
+{
+    fprintf(stderr, "tandos %s: no file of the images matches '%s': list them "
+            "to see the names that stand, in capital letters.\n", command,
+            pattern);
+    return STATUS_REFUSED;
+}
+
+void warn_same_image(const char *path, const char *earlier)
+{
+    fprintf(stderr, "tandos: %s: the same image as %s; its sheets are counted "
+            "twice: leave one of them out if that is not meant.\n",
+            input_name(path), input_name(earlier));
+}
+
+void warn_same_sheet(const char *path, const char *name, const char *earlier)
+{
+    fprintf(stderr, "tandos: %s: %s: the same sheet as in %s; it is counted "
+            "twice: leave one of them out if that is not meant.\n",
+            input_name(path), name, input_name(earlier));
+}
+
 enum status say_broken(const char *path, uint32_t rule, const char *hint)
 {
     fprintf(stderr, "tandos: %s: %s%s\n", input_name(path),

@@ -14,6 +14,19 @@ const char *input_name(const char *path);
  * "" or a sentence more, with a space in front. */
 enum status say_refused(const char *path, uint32_t number, const char *hint);
 
+/* A call refused a file of an image: what is wrong is said instead of what the
+ * library says of the number. */
+enum status say_file_refused(const char *path, const char *name,
+                             uint32_t number, const char *what,
+                             const char *hint);
+
+/* No file of the images has a name as the pattern typed. */
+enum status say_no_match(const char *command, const char *pattern);
+
+/* Warnings, with which the exit status stays as it is. */
+void warn_same_image(const char *path, const char *earlier);
+void warn_same_sheet(const char *path, const char *name, const char *earlier);
+
 /* The rule that the check found broken, and a hint as above. */
 enum status say_broken(const char *path, uint32_t rule, const char *hint);
 

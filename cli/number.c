@@ -33,13 +33,18 @@ static bool parse_digits(const char *digits, size_t length, uint32_t base,
     return length > 0;
 }
 
+bool parse_decimal(const char *digits, size_t length, uint32_t *number)
+{
+    return parse_digits(digits, length, 10, number);
+}
+
 static bool parse_part(const char *text, size_t length, uint32_t *number)
 {
     if (length > 0 && text[0] == '$')
         return parse_digits(text + 1, length - 1, 16, number);
     if (length > 1 && text[0] == '0' && (text[1] == 'x' || text[1] == 'X'))
         return parse_digits(text + 2, length - 2, 16, number);
-    return parse_digits(text, length, 10, number);
+    return parse_decimal(text, length, number);
 }
 
 bool parse_number(const char *text, uint32_t *number)

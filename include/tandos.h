@@ -2,11 +2,12 @@
  * tandos.h: TANDOS 65 disc images, for C99 and C++.
  *
  * The library lists, reads, saves, deletes, renames and protects the files of
- * a disc image, checks it, makes a blank disc and shows a sector. The calls of
- * the first part are written in Rattle and proved: for any bytes handed in,
- * each ends, stays inside the memory lent to it, and answers and leaves
- * exactly what is said below. The few functions of the second part are
- * written in C, tested, not proved.
+ * a disc image, checks it, makes a blank disc and shows a sector, and adds up
+ * the pieces of each worker from the sheets. The calls of the first part are
+ * written in Rattle and proved: for any bytes handed in, each ends, stays
+ * inside the memory lent to it, and answers and leaves exactly what is said
+ * below. The few functions of the second part are written in C, tested, not
+ * proved.
  *
  * THE DISC. An image is one side of a single density disc: T tracks (1 to 80),
  * numbered from 0, of S sectors, numbered 1 to S, of 256 bytes. Sector s of
@@ -45,10 +46,11 @@
  * from different threads at once.
  *
  *  - Nothing that a call may write (the image of save, delete, rename, protect
- *    and blank; the buffer of list and read) may overlap anything else lent to
- *    that call. The caller must see to that: no call can test it.
- *  - Each pointer is followed by the number of bytes lent there. A pointer may
- *    be NULL only where that number is 0.
+ *    and blank; the buffer of list and read; the totals of add_sheet) may
+ *    overlap anything else lent to that call. The caller must see to that: no
+ *    call can test it.
+ *  - Each pointer is followed by the number of bytes lent there, or of totals.
+ *    A pointer may be NULL only where that number is 0.
  *
  * ANSWERS. A call answers TANDOS_DONE or the number of a refusal: the first
  * that applies, in the order in which the call's comment has them. With a
@@ -67,6 +69,15 @@
  * address, and a sheet of L bytes, 1 <= L <= 65,536 - start. The end address
  * is start + L - 1. It takes 1 sector for L <= 245, otherwise
  * 1 + (L - 245) / 253 rounded up.
+ *
+ * RECORDS. A cutting table's sheet is a row of records, each one byte of kind
+ * and a body:
+ *
+ *    TANDOS_SHEET_PIECES  worker (2), pieces (2), low byte first
+ *    TANDOS_SHEET_DATE    four bytes of date, which are not looked at
+ *    TANDOS_SHEET_END     no body; the last byte of the sheet
+ *
+ * Only tandos_add_sheet looks at them: any bytes can be saved and read.
  */
 #ifndef TANDOS_H
 #define TANDOS_H
@@ -99,8 +110,18 @@ extern "C" {
 #define TANDOS_LINK_SIZE 2
 #define TANDOS_VIEW_SIZE 254
 
-/* The longest sheet. A read with a buffer of this size never gives SHORT. */
+/* The longest sheet of a file. A read with a buffer of this size never gives
+ * SHORT. */
 #define TANDOS_SHEET_MAX 65536
+
+/* A record of pieces or of a date in a sheet. Its end is one byte. */
+#define TANDOS_SHEET_RECORD_SIZE 5
+
+/* Workers are numbered from 1 to this; each has one running total. */
+#define TANDOS_WORKERS 500
+
+/* The most pieces that a running total may have. */
+#define TANDOS_TOTAL_MAX 1000000000
 
 /*
  * The most files of a sound disc. Of its at most 800 sectors one is the system
@@ -128,20 +149,24 @@ extern "C" {
 
 /* What a call answers: 0, or the number of a refusal. */
 enum tandos_refusal {
-    TANDOS_DONE = 0,      /* nothing was refused */
-    TANDOS_SIZE = 1,      /* image length isn't 256 times the sectors stated
-                             times 1 to 80, or there is no disc as stated */
-    TANDOS_NAME = 2,      /* a file or disc name breaks its rule */
-    TANDOS_UNSOUND = 3,   /* the check finds a broken rule */
-    TANDOS_ABSENT = 4,    /* no such file */
-    TANDOS_TAKEN = 5,     /* the new name stands already */
-    TANDOS_PROTECTED = 6, /* delete or rename of a protected file */
-    TANDOS_MODULE = 7,    /* page or L out of range */
-    TANDOS_ROOM = 8,      /* the free chain is shorter than the save needs */
-    TANDOS_NOT_PLAIN = 9, /* links apart, the file's sectors aren't byte for
-                             byte those of any load module */
-    TANDOS_SHORT = 10,    /* the lent buffer can't hold the answer */
-    TANDOS_NO_SECTOR = 11 /* view of a sector not on the disc */
+    TANDOS_DONE = 0,       /* nothing was refused */
+    TANDOS_SIZE = 1,       /* image length isn't 256 times the sectors stated
+                              times 1 to 80, or there is no disc as stated */
+    TANDOS_NAME = 2,       /* a file or disc name breaks its rule */
+    TANDOS_UNSOUND = 3,    /* the check finds a broken rule */
+    TANDOS_ABSENT = 4,     /* no such file */
+    TANDOS_TAKEN = 5,      /* the new name stands already */
+    TANDOS_PROTECTED = 6,  /* delete or rename of a protected file */
+    TANDOS_MODULE = 7,     /* page or L out of range */
+    TANDOS_ROOM = 8,       /* the free chain is shorter than the save needs */
+    TANDOS_NOT_PLAIN = 9,  /* links apart, the file's sectors aren't byte for
+                              byte those of any load module */
+    TANDOS_SHORT = 10,     /* the lent buffer can't hold the answer */
+    TANDOS_NO_SECTOR = 11, /* view of a sector not on the disc */
+    TANDOS_BAD_SHEET = 12, /* the bytes are no sheet of records, or the table
+                              is not one of 500 totals */
+    TANDOS_TOTAL = 13      /* a total is, or would become, more than
+                              1,000,000,000 */
 };
 
 /* The number of sectors of each track. */
@@ -161,6 +186,13 @@ enum tandos_record {
     TANDOS_RECORD_END = 0,
     TANDOS_RECORD_DISC = 1,
     TANDOS_RECORD_FILE = 2
+};
+
+/* The first byte of each record of a sheet. */
+enum tandos_sheet_record {
+    TANDOS_SHEET_END = 0,
+    TANDOS_SHEET_PIECES = 1,
+    TANDOS_SHEET_DATE = 2
 };
 
 /* The last byte of a file's record in a list. */
@@ -381,6 +413,24 @@ uint32_t tandos_view_start(const uint8_t *image, size_t image_len,
                            uint32_t sectors, uint32_t arrangement,
                            uint32_t track, uint32_t sector);
 
+/*
+ * Adds a sheet's pieces to running totals: totals[w - 1] is worker w's. Each
+ * record of pieces adds them to its worker's total. The sheet may be of any
+ * length, also longer than a file can hold. Start a week with TANDOS_WORKERS
+ * zeros and lend the same totals with one sheet after the other: whatever their
+ * order, if all are accepted, the same totals come out. Refusals, with which
+ * every total stays as it stood:
+ *   TANDOS_BAD_SHEET totals_count isn't TANDOS_WORKERS; or the sheet has a
+ *                    record of another kind, a record that is cut short, no
+ *                    end, bytes after its end, or a worker who isn't 1 to
+ *                    TANDOS_WORKERS. A sheet of no bytes has no end.
+ *   TANDOS_TOTAL     one of the totals lent, also of a worker whom the sheet
+ *                    does not have, is above TANDOS_TOTAL_MAX, or would be
+ *                    after this sheet.
+ */
+uint32_t tandos_add_sheet(uint32_t *totals, size_t totals_count,
+                          const uint8_t *sheet, size_t sheet_len);
+
 /* ---- Written in C, tested, not proved ---- */
 
 /*
@@ -394,7 +444,7 @@ const uint8_t *tandos_view(const uint8_t *image, size_t image_len,
                            uint32_t sectors, uint32_t arrangement,
                            uint32_t track, uint32_t sector);
 
-/* The name of a number that a call answers: "DONE", "SIZE", .. "NO SECTOR".
+/* The name of a number that a call answers: "DONE", "SIZE", .. "TOTAL".
  * "?" for any other number. */
 const char *tandos_refusal_name(uint32_t number);
 

@@ -1,5 +1,5 @@
 //! Times the library's calls against the second program's, on the same discs of
-//! every kind, in one run.
+//! every kind and on the same sheets, in one run.
 
 #![forbid(unsafe_code)]
 
@@ -7,14 +7,16 @@ mod discs;
 mod measure;
 mod operation;
 mod program;
+mod sheets;
 mod table;
 
 use compare::kind::Kind;
 use operation::Operation;
+use sheets::Sheet;
 use std::process::ExitCode;
 use table::{Row, Table};
 
-const USAGE: &str = "usage: bench [--growth]";
+const USAGE: &str = "usage: bench [--growth | --sheets]";
 const ROUNDS: usize = 401;
 const GROWTH_ROUNDS: usize = 101;
 const GROWING: [Operation; 3] = [Operation::Check, Operation::SaveAndDelete, Operation::Read];
@@ -22,19 +24,20 @@ const GROWING: [Operation; 3] = [Operation::Check, Operation::SaveAndDelete, Ope
 fn main() -> ExitCode {
     let arguments: Vec<String> = std::env::args().skip(1).collect();
     let arguments: Vec<&str> = arguments.iter().map(String::as_str).collect();
-    let (rows, rounds) = match arguments[..] {
-        [] => (calls(), ROUNDS),
-        ["--growth"] => (growth(), GROWTH_ROUNDS),
+    let (rows, sheets, rounds) = match arguments[..] {
+        [] => (calls(), all_sheets(), ROUNDS),
+        ["--growth"] => (growth(), Vec::new(), GROWTH_ROUNDS),
+        ["--sheets"] => (Vec::new(), all_sheets(), ROUNDS),
         _ => {
             eprintln!("{USAGE}");
             return ExitCode::from(2);
         }
     };
     let mut table = Table::new();
-    for row in &rows {
-        if !table.print(row, rounds) {
-            return ExitCode::FAILURE;
-        }
+    let printed = rows.iter().all(|row| table.print(row, rounds))
+        && sheets.iter().all(|three| table.print_sheets(three, rounds));
+    if !printed {
+        return ExitCode::FAILURE;
     }
     table.print_worst();
     ExitCode::SUCCESS
@@ -62,6 +65,10 @@ fn calls() -> Vec<Row> {
         }
     }
     rows
+}
+
+fn all_sheets() -> Vec<[Sheet; 3]> {
+    vec![sheets::long(), sheets::short_and_refused()]
 }
 
 /// Over the number of tracks, and over the number of files.

@@ -1,20 +1,25 @@
-//! Medians over interleaved batches of both programs on every kind of disc.
+//! Medians over interleaved batches of both programs on three works: an
+//! operation on every kind of disc, or three sheets.
 
-use crate::discs::Disc;
-use crate::operation::{repeat, Lent, Operation};
 use crate::program::{Program, LIBRARY, SECOND};
 use std::time::{Duration, Instant};
 
 const BATCH: Duration = Duration::from_micros(200);
-/// One for each program on each kind of disc.
+/// One for each program on each work.
 const SERIES: usize = 6;
 /// The turns of the first round. A batch is slower after another program's or
-/// on another image, so in as many rounds as there are series each comes after
+/// after another work, so in as many rounds as there are series each comes after
 /// each other one, never after itself.
 const FIRST_TURNS: [usize; SERIES] = [0, 1, 5, 2, 4, 3];
 
 fn turns(round: usize) -> [usize; SERIES] {
     FIRST_TURNS.map(|first| (first + round) % SERIES)
+}
+
+/// What can be repeated by both programs in turn, with all that it lends them.
+pub trait Work: Clone + PartialEq {
+    /// 0 if every call answered as it should.
+    fn repeat(&mut self, program: &Program, times: u32) -> u64;
 }
 
 /// Median nanoseconds of one operation by each program.
@@ -30,45 +35,45 @@ impl Measured {
     }
 }
 
-/// One program on the image of one kind.
+/// One program on one work.
 struct Series {
     program: &'static Program,
-    image: usize,
+    work: usize,
     times: u32,
     taken: Vec<f64>,
 }
 
-/// The figures of each disc; nothing if a program refuses a call, or the two
-/// leave the lent memory other than alike.
-pub fn measure(operation: Operation, discs: &[Disc; 3], rounds: usize) -> Option<Vec<Measured>> {
-    if !discs.iter().all(|disc| done_alike(operation, disc)) {
+/// The figures of each work; nothing if a program answers a call with anything
+/// but what it should, or the two leave the lent memory other than alike.
+pub fn measure<W: Work>(works: &[W; 3], rounds: usize) -> Option<Vec<Measured>> {
+    if !works.iter().all(done_alike) {
         return None;
     }
-    let mut lent: Vec<Lent> = discs.iter().map(Lent::new).collect();
-    let mut series = all_series(operation, &mut lent, rounds);
+    let mut works = works.to_vec();
+    let mut series = all_series(&mut works, rounds);
     for round in 0..rounds {
         for turn in turns(round) {
             let one = &mut series[turn];
-            let taken = timed(operation, one.program, &mut lent[one.image], one.times);
+            let taken = timed(one.program, &mut works[one.work], one.times);
             one.taken.push(taken);
         }
     }
     let medians = series.map(|mut one| median(&mut one.taken));
-    let of_image = |both: &[f64]| Measured {
+    let of_work = |both: &[f64]| Measured {
         library: both[0],
         second: both[1],
     };
-    Some(medians.chunks(2).map(of_image).collect())
+    Some(medians.chunks(2).map(of_work).collect())
 }
 
-/// The library and the second program on one image after the other.
-fn all_series(operation: Operation, lent: &mut [Lent], rounds: usize) -> [Series; SERIES] {
+/// The library and the second program on one work after the other.
+fn all_series<W: Work>(works: &mut [W], rounds: usize) -> [Series; SERIES] {
     [0, 1, 2, 3, 4, 5].map(|at| {
-        let (image, program) = (at / 2, [&LIBRARY, &SECOND][at % 2]);
+        let (work, program) = (at / 2, [&LIBRARY, &SECOND][at % 2]);
         Series {
             program,
-            image,
-            times: batch_size(operation, program, &mut lent[image]),
+            work,
+            times: batch_size(program, &mut works[work]),
             taken: Vec::with_capacity(rounds),
         }
     })
@@ -76,21 +81,21 @@ fn all_series(operation: Operation, lent: &mut [Lent], rounds: usize) -> [Series
 
 /// Whether both programs do what is asked, since a refused call would pass for
 /// a fast one, and leave the same.
-fn done_alike(operation: Operation, disc: &Disc) -> bool {
+fn done_alike<W: Work>(work: &W) -> bool {
     let [library, second] = [&LIBRARY, &SECOND].map(|program| {
-        let mut lent = Lent::new(disc);
-        let numbers = repeat(operation, program, &mut lent, 1);
-        (numbers, lent)
+        let mut work = work.clone();
+        let numbers = work.repeat(program, 1);
+        (numbers, work)
     });
     library.0 == 0 && library == second
 }
 
 /// How many repetitions take about the time of a batch.
-fn batch_size(operation: Operation, program: &Program, lent: &mut Lent) -> u32 {
+fn batch_size<W: Work>(program: &Program, work: &mut W) -> u32 {
     let mut times = 1;
     loop {
         let start = Instant::now();
-        repeat(operation, program, lent, times);
+        work.repeat(program, times);
         let taken = start.elapsed();
         if taken >= BATCH / 2 {
             let fitting = f64::from(times) * BATCH.as_secs_f64() / taken.as_secs_f64();
@@ -101,9 +106,9 @@ fn batch_size(operation: Operation, program: &Program, lent: &mut Lent) -> u32 {
 }
 
 /// Nanoseconds of one operation in a batch.
-fn timed(operation: Operation, program: &Program, lent: &mut Lent, times: u32) -> f64 {
+fn timed<W: Work>(program: &Program, work: &mut W, times: u32) -> f64 {
     let start = Instant::now();
-    repeat(operation, program, lent, times);
+    work.repeat(program, times);
     start.elapsed().as_secs_f64() * 1e9 / f64::from(times)
 }
 
@@ -115,8 +120,15 @@ fn median(values: &mut [f64]) -> f64 {
 #[cfg(test)]
 mod tests {
     use super::*;
-    use crate::discs;
+    use crate::discs::{self, Disc};
+    use crate::operation::{Lent, Operation};
+    use crate::sheets;
     use compare::kind::Kind;
+
+    fn done_on(disc: &Disc) -> Vec<bool> {
+        let done = |operation| done_alike(&Lent::new(operation, disc));
+        Operation::ALL.map(done).to_vec()
+    }
 
     #[test]
     fn every_series_comes_after_every_other_and_never_after_itself() {
@@ -136,7 +148,7 @@ mod tests {
     fn every_operation_is_done_on_every_kind_of_disc() {
         for kind in Kind::ALL {
             let disc = discs::few_large_files(kind, 2);
-            assert!(Operation::ALL.iter().all(|&one| done_alike(one, &disc)));
+            assert!(done_on(&disc).into_iter().all(|done| done));
         }
     }
 
@@ -144,7 +156,30 @@ mod tests {
     fn a_refused_operation_is_not_timed() {
         let mut disc = discs::few_large_files(Kind::Nine, 2);
         disc.kind = Kind::Ten;
-        assert!(!Operation::ALL.iter().any(|&one| done_alike(one, &disc)));
+        assert!(!done_on(&disc).into_iter().any(|done| done));
+    }
+
+    #[test]
+    fn every_sheet_is_timed() {
+        for sheets in [sheets::long(), sheets::short_and_refused()] {
+            assert!(sheets.iter().all(done_alike));
+        }
+    }
+
+    /// Answers what the library answers, but leaves something else.
+    #[derive(Clone, PartialEq)]
+    struct Unlike(bool);
+
+    impl Work for Unlike {
+        fn repeat(&mut self, program: &Program, _times: u32) -> u64 {
+            self.0 = std::ptr::eq(program, &LIBRARY);
+            0
+        }
+    }
+
+    #[test]
+    fn what_is_left_unlike_is_not_timed() {
+        assert!(!done_alike(&Unlike(false)));
     }
 
     #[test]

@@ -2,6 +2,7 @@
 //! they can be repeated by both programs in turn.
 
 use crate::discs::Disc;
+use crate::measure::Work;
 use crate::program::Program;
 
 const SAVED_BYTES: usize = 2000;
@@ -48,10 +49,11 @@ impl Operation {
     }
 }
 
-/// Everything that the calls are lent, made before any time is taken and
-/// lent to both programs alike.
+/// An operation with everything that its calls are lent, made before any time
+/// is taken and lent to both programs alike.
 #[derive(Debug, Clone, PartialEq, Eq)]
 pub struct Lent {
+    operation: Operation,
     image: Vec<u8>,
     sectors: u32,
     arrangement: u32,
@@ -62,8 +64,9 @@ pub struct Lent {
 }
 
 impl Lent {
-    pub fn new(disc: &Disc) -> Lent {
+    pub fn new(operation: Operation, disc: &Disc) -> Lent {
         Lent {
+            operation,
             image: disc.image.clone(),
             sectors: disc.kind.sectors(),
             arrangement: disc.kind.arrangement(),
@@ -75,19 +78,21 @@ impl Lent {
     }
 }
 
-/// Repeats an operation and gives the sum of the numbers that its calls answer,
-/// which is 0 if all was done.
-#[inline(never)]
-pub fn repeat(operation: Operation, program: &Program, lent: &mut Lent, times: u32) -> u64 {
-    match operation {
-        Operation::Check => summed(times, || lent.check(program)),
-        Operation::List => summed(times, || lent.list(program)),
-        Operation::Read => summed(times, || lent.read(program)),
-        Operation::SaveAndDelete => summed(times, || lent.save_and_delete(program)),
-        Operation::Rename => summed(times, || lent.rename_and_back(program)),
-        Operation::Protect => summed(times, || lent.protect_on_and_off(program)),
-        Operation::Blank => summed(times, || lent.blank(program)),
-        Operation::ViewNumber => summed(times, || lent.view_number(program)),
+impl Work for Lent {
+    /// Gives the sum of the numbers that the calls answer, which is 0 if all was
+    /// done.
+    #[inline(never)]
+    fn repeat(&mut self, program: &Program, times: u32) -> u64 {
+        match self.operation {
+            Operation::Check => summed(times, || self.check(program)),
+            Operation::List => summed(times, || self.list(program)),
+            Operation::Read => summed(times, || self.read(program)),
+            Operation::SaveAndDelete => summed(times, || self.save_and_delete(program)),
+            Operation::Rename => summed(times, || self.rename_and_back(program)),
+            Operation::Protect => summed(times, || self.protect_on_and_off(program)),
+            Operation::Blank => summed(times, || self.blank(program)),
+            Operation::ViewNumber => summed(times, || self.view_number(program)),
+        }
     }
 }
 

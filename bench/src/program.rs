@@ -20,6 +20,7 @@ pub struct Program {
     pub protect: fn(&mut [u8], u32, u32, &[u8], u32) -> u32,
     pub blank: fn(&mut [u8], u32, u32, &[u8]) -> u32,
     pub view_number: fn(&[u8], u32, u32, u32, u32) -> u32,
+    pub add_sheet: fn(&mut [u32], &[u8]) -> u32,
 }
 
 pub static LIBRARY: Program = Program {
@@ -32,6 +33,7 @@ pub static LIBRARY: Program = Program {
     protect: ffi::protect,
     blank: ffi::blank,
     view_number: ffi::view_number,
+    add_sheet: ffi::add_sheet,
 };
 
 pub static SECOND: Program = Program {
@@ -44,4 +46,5 @@ pub static SECOND: Program = Program {
     protect: reference::protect,
     blank: reference::blank,
     view_number: reference::view_number,
+    add_sheet: reference::add_sheet,
 };

@@ -2,7 +2,8 @@
 
 use crate::discs::Disc;
 use crate::measure::{measure, Measured};
-use crate::operation::Operation;
+use crate::operation::{Lent, Operation};
+use crate::sheets::Sheet;
 use compare::kind::Kind;
 
 /// An operation on the same disc of each kind, in the order of `Kind::ALL`.
@@ -12,12 +13,19 @@ pub struct Row {
     pub discs: [Disc; 3],
 }
 
+impl Row {
+    fn works(&self) -> [Lent; 3] {
+        [0, 1, 2].map(|at| Lent::new(self.operation, &self.discs[at]))
+    }
+}
+
 /// Prints rows as they are measured and keeps the worst.
 pub struct Table {
     /// Of the library over the second program, for each kind.
     ratios: [Worst; 3],
     /// Of the library's image of each kind over its plain one of ten sectors.
     over_ten: [Worst; 3],
+    sheets: Worst,
 }
 
 impl Table {
@@ -30,18 +38,16 @@ impl Table {
         Table {
             ratios: Default::default(),
             over_ten: Default::default(),
+            sheets: Worst::default(),
         }
     }
 
     /// Measures a row and prints it, for each kind of disc; false if the
     /// programs refuse it or differ.
     pub fn print(&mut self, row: &Row, rounds: usize) -> bool {
-        let measured = match measure(row.operation, &row.discs, rounds) {
+        let measured = match measure(&row.works(), rounds) {
             Some(measured) => measured,
-            None => {
-                println!("{}: refused, or the two programs differ", row.label);
-                return false;
-            }
+            None => return differing(&row.label),
         };
         let ten = measured[0].library;
         for (at, one) in measured.iter().enumerate() {
@@ -54,8 +60,22 @@ impl Table {
         true
     }
 
+    /// Measures three sheets and prints a line for each; false if the programs
+    /// answer something else or differ.
+    pub fn print_sheets(&mut self, sheets: &[Sheet; 3], rounds: usize) -> bool {
+        let measured = match measure(sheets, rounds) {
+            Some(measured) => measured,
+            None => return differing("add sheet"),
+        };
+        for (sheet, one) in sheets.iter().zip(&measured) {
+            println!("{}", figures(sheet.label, one));
+            self.sheets.note(one.ratio(), sheet.label);
+        }
+        true
+    }
+
     pub fn print_worst(&self) {
-        for worst in &self.ratios {
+        for worst in self.ratios.iter().chain([&self.sheets]) {
             worst.print("ratio");
         }
         // Ten over itself tells nothing.
@@ -63,6 +83,11 @@ impl Table {
             worst.print("over ten plain");
         }
     }
+}
+
+fn differing(label: &str) -> bool {
+    println!("{label}: not as it should be, or the two programs differ");
+    false
 }
 
 fn figures(label: &str, measured: &Measured) -> String {

@@ -1,6 +1,7 @@
 //! What occurred in a run of the driver, and what should have but did not.
 
 use crate::kind::Stated;
+use crate::sheet_tally::SheetTally;
 use crate::tally::Tally;
 use std::fmt;
 
@@ -8,6 +9,8 @@ use std::fmt;
 pub struct Counts {
     /// One for each of `Stated::ALL`.
     tallies: [Tally; 6],
+    /// Of the weekly totals, for which nothing is stated.
+    pub sheets: SheetTally,
     pub passed: u64,
     pub failed: u64,
 }
@@ -16,6 +19,7 @@ impl Default for Counts {
     fn default() -> Counts {
         Counts {
             tallies: Stated::ALL.map(Tally::new),
+            sheets: SheetTally::default(),
             passed: 0,
             failed: 0,
         }
@@ -38,13 +42,15 @@ impl Counts {
             let names = tally.missing().into_iter();
             names.map(move |name| format!("stated {stated}: {name}"))
         };
-        self.tallies.iter().flat_map(of).collect()
+        let of_discs = self.tallies.iter().flat_map(of);
+        of_discs.chain(self.sheets.missing()).collect()
     }
 }
 
 impl fmt::Display for Counts {
     fn fmt(&self, out: &mut fmt::Formatter<'_>) -> fmt::Result {
-        self.tallies.iter().try_for_each(|tally| tally.write(out))
+        self.tallies.iter().try_for_each(|tally| tally.write(out))?;
+        self.sheets.write(out)
     }
 }
 

@@ -50,7 +50,16 @@ pub fn between_images(found: &[u8], expected: &[u8], numbers: Numbers) -> Option
     ))
 }
 
-fn first_difference(found: &[u8], expected: &[u8]) -> Option<usize> {
+/// The library's table of totals against what it should be.
+pub fn between_totals(found: &[u32], expected: &[u32]) -> Option<String> {
+    let at = first_difference(found, expected)?;
+    let (worker, found, expected) = (at + 1, found[at], expected[at]);
+    Some(format!(
+        "total of worker {worker}: library {found}, expected {expected}"
+    ))
+}
+
+fn first_difference<T: PartialEq>(found: &[T], expected: &[T]) -> Option<usize> {
     if found == expected {
         return None;
     }
@@ -110,6 +119,12 @@ fn without_numbers(command: &Command) -> String {
     }
 }
 
+/// A call of the weekly totals; the totals are told by their number alone.
+pub fn describe_adding(totals: &[u32], sheet: &[u8]) -> String {
+    let (count, sheet) = (totals.len(), shortened(sheet));
+    format!("add sheet to {count} totals, {sheet}")
+}
+
 fn shortened(sheet: &[u8]) -> String {
     let front = &sheet[..sheet.len().min(4)];
     format!("sheet of {} bytes ({front:02X?}..)", sheet.len())
@@ -151,6 +166,14 @@ mod tests {
             let expected = format!("byte 2823 of the image{place}: library 09, expected 00");
             assert_eq!(text, Some(expected));
         }
+    }
+
+    #[test]
+    fn the_first_differing_total_is_named_by_its_worker() {
+        assert_eq!(between_totals(&[4, 5, 6], &[4, 5, 6]), None);
+        let text = between_totals(&[4, 7, 8], &[4, 5, 6]);
+        let expected = "total of worker 2: library 7, expected 5".to_string();
+        assert_eq!(text, Some(expected));
     }
 
     #[test]

@@ -115,6 +115,12 @@ extern "C" {
         track: u32,
         sector: u32,
     ) -> u32;
+    fn tandos_add_sheet(
+        totals: *mut u32,
+        totals_count: usize,
+        sheet: *const u8,
+        sheet_len: usize,
+    ) -> u32;
 }
 
 pub fn check(image: &[u8], sectors: u32, arrangement: u32) -> Checked {
@@ -277,6 +283,17 @@ pub fn view_start(image: &[u8], sectors: u32, arrangement: u32, track: u32, sect
             arrangement,
             track,
             sector,
+        )
+    }
+}
+
+pub fn add_sheet(totals: &mut [u32], sheet: &[u8]) -> u32 {
+    unsafe {
+        tandos_add_sheet(
+            totals.as_mut_ptr(),
+            totals.len(),
+            sheet.as_ptr(),
+            sheet.len(),
         )
     }
 }

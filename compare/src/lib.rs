@@ -1,5 +1,6 @@
 //! Runs the library and the second program on the same generated images and
-//! commands, and compares every number and every byte after each call.
+//! commands, and on the same tables of totals and sheets, and compares every
+//! number and every byte after each call.
 
 #![deny(unsafe_code)]
 
@@ -17,5 +18,8 @@ pub mod options;
 mod pair;
 pub mod run;
 mod several;
+mod sheet_case;
+mod sheet_tally;
+mod table;
 mod tally;
 mod twin;

@@ -3,7 +3,7 @@
 
 use crate::ffi;
 use crate::kind::Numbers;
-use crate::lend::Lent;
+use crate::lend::{Item, Lent};
 use reference::command::{Answer, Command};
 use reference::generate::Random;
 use reference::history::Program;
@@ -28,8 +28,8 @@ impl Library {
     /// Lends a guarded copy of `bytes` to a call and copies it back.
     fn guarded<T>(&self, what: &str, bytes: &mut [u8], call: impl Fn(&mut [u8]) -> T) -> T {
         let mut lent = Lent::shifted(bytes.len(), bytes);
-        let answer = call(lent.bytes_mut());
-        bytes.copy_from_slice(lent.bytes());
+        let answer = call(lent.content_mut());
+        bytes.copy_from_slice(lent.content());
         if let Some(text) = beside(what, &lent) {
             self.stray_write.borrow_mut().get_or_insert(text);
         }
@@ -90,7 +90,7 @@ pub fn run(random: &mut Random, command: &Command, numbers: Numbers, image: &mut
         second: Lent::new(random, texts.1),
         buffer: Lent::new(random, &buffer(command)),
     };
-    let answer = call(command, image.bytes_mut(), numbers, &mut lent);
+    let answer = call(command, image.content_mut(), numbers, &mut lent);
     let stray_write = beside("buffer", &lent.buffer)
         .or_else(|| in_or_beside("name", &lent.first, texts.0))
         .or_else(|| in_or_beside("sheet or new name", &lent.second, texts.1));
@@ -132,8 +132,8 @@ fn call(command: &Command, image: &mut [u8], numbers: Numbers, lent: &mut Argume
         sectors,
         arrangement,
     } = numbers;
-    let name = lent.first.bytes();
-    let buffer = lent.buffer.bytes_mut();
+    let name = lent.first.content();
+    let buffer = lent.buffer.content_mut();
     match command {
         Command::Check => Answer::Checked(ffi::check(image, sectors, arrangement)),
         Command::List { .. } => Answer::Listed(
@@ -155,7 +155,7 @@ fn call_writing(command: &Command, image: &mut [u8], numbers: Numbers, lent: &Ar
         sectors,
         arrangement,
     } = numbers;
-    let (first, second) = (lent.first.bytes(), lent.second.bytes());
+    let (first, second) = (lent.first.content(), lent.second.content());
     match command {
         Command::Save {
             page,
@@ -198,17 +198,17 @@ fn viewed(image: &[u8], numbers: Numbers, track: u32, sector: u32) -> Answer {
     }
 }
 
-/// The first changed byte around what was lent.
-pub fn beside(what: &str, lent: &Lent) -> Option<String> {
+/// The first changed item around what was lent.
+pub fn beside<T: Item>(what: &str, lent: &Lent<T>) -> Option<String> {
     let at = lent.changed_guard()?;
-    let length = lent.bytes().len();
+    let (item, length) = (T::NAME, lent.content().len());
     Some(format!(
-        "a byte outside the {what} ({length} bytes) is changed, at {at} from its start"
+        "a {item} outside the {what} ({length} {item}s) is changed, at {at} from its start"
     ))
 }
 
-fn in_or_beside(what: &str, lent: &Lent, handed_in: &[u8]) -> Option<String> {
-    let pairs = lent.bytes().iter().zip(handed_in);
+pub fn in_or_beside(what: &str, lent: &Lent, handed_in: &[u8]) -> Option<String> {
+    let pairs = lent.content().iter().zip(handed_in);
     let changed = pairs.into_iter().position(|(now, was)| now != was);
     changed
         .map(|at| format!("byte {at} of the {what} is changed, which is lent for reading"))

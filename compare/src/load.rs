@@ -1,5 +1,8 @@
 //! Many commands on one image of each kind: what shows only after a long
 //! history, such as a free chain that has passed every sector in many orders.
+//! After each command one sheet more is added to a table of totals.
+
+mod sheets;
 
 use crate::difference::describe;
 use crate::discs;
@@ -10,6 +13,7 @@ use crate::run::{any_command, small_file_command, Draw};
 use crate::tally::Tally;
 use reference::command::Command;
 use reference::generate::{fresh_name, standing_names, Random};
+use sheets::Sheets;
 use std::fmt;
 
 /// The makers' usual disc.
@@ -29,6 +33,7 @@ pub struct Load {
     random: Random,
     /// One of each of `Kind::ALL`, which take turns.
     images: [Image; 3],
+    sheets: Sheets,
     commands: u64,
 }
 
@@ -36,10 +41,12 @@ impl Load {
     pub fn new(seed: u64) -> Load {
         let mut random = Random::new(seed);
         let images = Kind::ALL.map(|kind| Image::new(&mut random, kind));
+        let sheets = Sheets::new(&mut random);
         Load {
             seed,
             random,
             images,
+            sheets,
             commands: 0,
         }
     }
@@ -48,18 +55,22 @@ impl Load {
         self.commands
     }
 
-    /// Ends with the first failure, since the images differ from there.
+    /// Ends with the first failure, since the images or the totals differ from
+    /// there.
     pub fn run(&mut self, commands: u64) -> Result<(), String> {
+        let seed = self.seed;
         for number in 0..commands {
             self.commands += 1;
             let turn = number % self.images.len() as u64;
             let image = &mut self.images[turn as usize];
-            image.step(&mut self.random).map_err(|text| {
-                let seed = self.seed;
-                format!("FAILED: seed {seed}, command {number}: {text}")
-            })?;
+            let random = &mut self.random;
+            image
+                .step(random)
+                .and_then(|()| self.sheets.step(random))
+                .map_err(|text| format!("FAILED: seed {seed}, command {number}: {text}"))?;
         }
-        Ok(())
+        let ended = self.sheets.end();
+        ended.map_err(|text| format!("FAILED: seed {seed}, at the end: {text}"))
     }
 }
 
@@ -151,7 +162,7 @@ fn clearing_command(random: &mut Random, image: &[u8], kind: Kind) -> Command {
 impl fmt::Display for Load {
     fn fmt(&self, out: &mut fmt::Formatter<'_>) -> fmt::Result {
         let [ten, moved, nine] = &self.images;
-        write!(out, "{ten}\n{moved}\n{nine}")
+        write!(out, "{ten}\n{moved}\n{nine}\n{}", self.sheets)
     }
 }
 

@@ -61,7 +61,7 @@ impl Pair {
         match &mut self.book {
             Some(book) => book.record(command, accepted),
             None if accepted && matches!(command, Command::Blank { .. }) => {
-                self.book = book(self.library.bytes(), self.numbers);
+                self.book = book(self.library.content(), self.numbers);
             }
             None => {}
         }
@@ -76,7 +76,7 @@ impl Pair {
     pub fn moment_fault(&self) -> Option<String> {
         let book = self.book.as_ref()?;
         let library = Library::default();
-        moment_fault(&library, self.library.bytes(), book)
+        moment_fault(&library, self.library.content(), book)
             .or_else(|| library.stray_write())
             .or_else(|| self.image_difference())
             .map(|text| format!("demand 3, in the moment after it: {text}"))
@@ -85,7 +85,7 @@ impl Pair {
     /// What the library's image alone lacks of demand 3 at this moment.
     pub fn places_fault(&self) -> Option<String> {
         let book = self.book.as_ref()?;
-        places_fault(self.library.bytes(), book).map(|text| format!("demand 3: {text}"))
+        places_fault(self.library.content(), book).map(|text| format!("demand 3: {text}"))
     }
 
     /// How many files and how many directory sectors the history has.
@@ -97,7 +97,7 @@ impl Pair {
 
     fn image_difference(&self) -> Option<String> {
         beside("image", &self.library)
-            .or_else(|| between_images(self.library.bytes(), &self.second, self.numbers))
+            .or_else(|| between_images(self.library.content(), &self.second, self.numbers))
     }
 }
 

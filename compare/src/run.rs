@@ -1,4 +1,10 @@
-//! Runs: an image and a list of commands, each run from its own seed.
+//! Runs: an image and a list of commands, or a table of totals and sheets, each
+//! run from its own seed.
+
+mod totals;
+
+#[cfg(test)]
+mod planted;
 
 use crate::calls::{Call, SIZE};
 use crate::count::Counts;
@@ -8,15 +14,18 @@ use crate::kind::{Kind, Numbers, Stated};
 use crate::met::Met;
 use crate::pair::Pair;
 use crate::several::Case;
+use crate::table::{self, AddSheet};
 use crate::twin::Twin;
-use reference::command::{Buffer, Command};
+use reference::command::{Answer, Buffer, Command};
 use reference::generate::{self, fresh_name, Random};
 
 const MOST_REPORTS: u64 = 10;
 const CASES_IN_A_RUN: usize = 16;
-/// Of so many shapes of runs the first are lists of commands, the rest cases.
-const SHAPES: usize = 35;
+/// Of so many shapes of runs the first are lists of commands, then come cases,
+/// and the rest are runs of the weekly totals.
+const SHAPES: usize = 40;
 const LISTS: usize = 30;
+const LISTS_AND_CASES: usize = 35;
 /// One run in so many states no kind of disc throughout.
 const NO_KIND_IN: usize = 6;
 /// One image in so many of these has whole tracks of the number stated.
@@ -34,6 +43,8 @@ pub struct Driver {
     seed: u64,
     /// Prints each command before it is run.
     verbose: bool,
+    /// The library's, unless a test plants another.
+    add_sheet: AddSheet,
     pub counts: Counts,
 }
 
@@ -60,6 +71,7 @@ impl Driver {
         Driver {
             seed,
             verbose,
+            add_sheet: table::of_library,
             counts: Counts::default(),
         }
     }
@@ -76,7 +88,13 @@ impl Driver {
     pub fn run(&mut self, number: u64) {
         let mixed = Random::new(self.seed ^ number.wrapping_mul(0xD1B5_4A32_D192_ED03)).draw();
         let random = &mut Random::new(mixed);
+        if number == 0 {
+            return self.every_worker(random, number);
+        }
         let shape = random.below(SHAPES);
+        if shape >= LISTS_AND_CASES {
+            return self.totals(random, number);
+        }
         if shape >= LISTS {
             return self.cases(random, number);
         }
@@ -119,7 +137,7 @@ impl Driver {
             if random.one_in(ASIDE_IN) {
                 self.aside(random, &pair, &next, place);
             }
-            if !self.step(random, &mut pair, &next, None, place) {
+            if self.step(random, &mut pair, &next, None, place).is_none() {
                 break;
             }
             next = (run.draw)(random, pair.image(), run.kind);
@@ -133,7 +151,7 @@ impl Driver {
         let stated = of_run.another(random);
         let numbers = stated.numbers(random);
         let mut copy = Pair::new(random, pair.image().to_vec(), numbers);
-        if self.step(random, &mut copy, command, None, place) {
+        if self.step(random, &mut copy, command, None, place).is_some() {
             self.counts.of(of_run).aside(stated);
         }
     }
@@ -145,7 +163,8 @@ impl Driver {
             let expected = case.expected_number();
             let mut pair = Pair::new(random, case.image, case.numbers);
             let place = Place { run, command };
-            if self.step(random, &mut pair, &case.command, Some(expected), place) {
+            let answer = self.step(random, &mut pair, &case.command, Some(expected), place);
+            if answer.is_some() {
                 self.counts
                     .of(case.numbers.stated())
                     .refusals(Call::of(&case.command), &case.refusals);
@@ -153,7 +172,7 @@ impl Driver {
         }
     }
 
-    /// Runs a command on both programs; whether all was as it should be.
+    /// Runs a command on both programs; the answer, if all was as it should be.
     fn step(
         &mut self,
         random: &mut Random,
@@ -161,22 +180,30 @@ impl Driver {
         command: &Command,
         expected: Option<u32>,
         place: Place,
-    ) -> bool {
+    ) -> Option<Answer> {
         let call = describe(command, pair.numbers());
+        self.announce(&call, place);
+        match self.compare(random, pair, command, expected) {
+            Ok(answer) => {
+                self.counts.passed += 1;
+                Some(answer)
+            }
+            Err(text) => {
+                self.fail(&call, &text, place);
+                None
+            }
+        }
+    }
+
+    fn announce(&self, call: &str, place: Place) {
         if self.verbose {
             println!("command {}: {call}", place.command);
         }
-        match self.compare(random, pair, command, expected) {
-            Ok(()) => {
-                self.counts.passed += 1;
-                true
-            }
-            Err(text) => {
-                self.counts.failed += 1;
-                self.report(&call, &text, place);
-                false
-            }
-        }
+    }
+
+    fn fail(&mut self, call: &str, text: &str, place: Place) {
+        self.counts.failed += 1;
+        self.report(call, text, place);
     }
 
     fn compare(
@@ -185,7 +212,7 @@ impl Driver {
         pair: &mut Pair,
         command: &Command,
         expected: Option<u32>,
-    ) -> Result<(), String> {
+    ) -> Result<Answer, String> {
         let twin = some_twin(random, pair);
         let met = Met::by(pair.image(), pair.numbers());
         let answer = pair.step(random, command)?;
@@ -195,18 +222,18 @@ impl Driver {
         tally.call(command, &answer, met);
         match first_to_apply(stated, expected) {
             Some(first) if first != number => {
-                return Err(format!("both answer {number}, but {first} applies first"));
+                return Err(wrongly_first(number, first));
             }
             _ => {}
         }
         if let Some(twin) = twin {
             tally.twin(call, number);
-            if let Some(text) = twin.fault(random, command, answer, pair.image()) {
+            if let Some(text) = twin.fault(random, command, answer.clone(), pair.image()) {
                 return Err(text);
             }
         }
         tally.moments += u64::from(pair.has_history());
-        pair.moment_fault().map_or(Ok(()), Err)
+        pair.moment_fault().map_or(Ok(answer), Err)
     }
 
     fn report(&self, call: &str, text: &str, place: Place) {
@@ -221,6 +248,10 @@ impl Driver {
             _ => {}
         }
     }
+}
+
+fn wrongly_first(number: u32, first: u32) -> String {
+    format!("both answer {number}, but {first} applies first")
 }
 
 /// The answer where it is known without either program.

@@ -52,7 +52,7 @@ impl Twin {
             .stray_write
             .or_else(|| between_answers(&placeless(outcome.answer), &placeless(answer)))
             .or_else(|| beside("image", &self.image))
-            .or_else(|| between_images(self.image.bytes(), &expected, numbers))
+            .or_else(|| between_images(self.image.content(), &expected, numbers))
             .map(|text| format!("the same on {}: {text}", self.kind.name()))
     }
 }

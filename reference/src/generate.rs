@@ -1,4 +1,5 @@
-//! Seeded generators of discs, sound and damaged, and of command lists.
+//! Seeded generators of discs, sound and damaged, of command lists, and of
+//! runs of weekly totals.
 //!
 //! A seed gives discs for either number of sectors. They are laid out plain and
 //! arranged at the end, so that a seed gives the same disc in either
@@ -12,6 +13,7 @@ mod discs;
 mod files;
 mod names;
 mod random;
+mod sheets;
 
 pub use commands::{command, command_list};
 pub use damage::{break_rule, damage, damaged_disc, flip_byte, wrong_length};
@@ -19,6 +21,8 @@ pub use discs::{sound_disc, sound_disc_of};
 pub use files::capacity;
 pub use names::{fresh_name, illegal_name, standing_names, typed_form};
 pub use random::Random;
+pub use sheets::{edge_sheet, good_sheet, spoil, table, totals_run, wrong_table};
+pub use sheets::{Spoil, TotalsRun};
 
 use crate::disc::Format;
 

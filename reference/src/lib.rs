@@ -7,7 +7,8 @@
 //! Each call on an image is told how many sectors a track has, 9 or 10, and how
 //! they are arranged in the image: 0 is plain, the sectors of each track by
 //! number; 1 is moved, in passing order, which only discs of ten have. Any
-//! other numbers are refused with 1, like a wrong length.
+//! other numbers are refused with 1, like a wrong length. The weekly totals are
+//! of no image: their call is told neither.
 
 #![forbid(unsafe_code)]
 
@@ -22,6 +23,8 @@ mod module;
 mod name;
 mod refusal;
 mod save;
+mod totals;
+pub mod totals_book;
 
 use disc::{Disc, DiscMut};
 use refusal::Refusal;
@@ -181,6 +184,11 @@ fn viewed(
 ) -> Result<Range<usize>, Refusal> {
     let disc = Disc::open(image, sectors, arrangement)?;
     commands::view(disc, track, sector)
+}
+
+/// Adds a sheet's pieces to the running totals of workers 1 to 500.
+pub fn add_sheet(totals: &mut [u32], sheet: &[u8]) -> u32 {
+    refusal::number(totals::add_sheet(totals, sheet))
 }
 
 /// The sectors of an image arranged as `from`, in the arrangement `to`; nothing

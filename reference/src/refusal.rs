@@ -14,6 +14,8 @@ pub enum Refusal {
     NotPlain = 9,
     Short = 10,
     NoSector = 11,
+    BadSheet = 12,
+    Total = 13,
 }
 
 impl Refusal {

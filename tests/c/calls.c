@@ -204,6 +204,22 @@ uint32_t try_view_number(const struct disc *disc, uint32_t track,
     return number;
 }
 
+uint32_t try_add_sheet(uint32_t *totals, size_t count, struct text sheet)
+{
+    struct lent table = lend((uint8_t *)totals, count * sizeof totals[0]);
+    struct lent records = lend_text(sheet);
+    uint32_t number =
+        tandos_add_sheet((uint32_t *)(void *)table.bytes, count, records.bytes,
+                         records.length);
+
+    if (count > 0)
+        memcpy(totals, table.bytes, table.length);
+    expect_kept_beyond(number == TANDOS_DONE ? table.length : 0,
+                       "totals after add_sheet", &table);
+    expect_kept_beyond(0, "sheet after add_sheet", &records);
+    return number;
+}
+
 uint32_t save_at_2000(struct disc *disc, const char *name, struct text sheet)
 {
     return try_save(disc, text(name), 0, 0x2000, 0x2000, sheet);

@@ -52,6 +52,9 @@ uint32_t try_blank(struct disc *disc, struct text name);
 uint32_t try_view_number(const struct disc *disc, uint32_t track,
                          uint32_t sector);
 
+/* The totals become those that the call left. NULL may be lent with 0. */
+uint32_t try_add_sheet(uint32_t *totals, size_t count, struct text sheet);
+
 /* A save on page 0 with start and transfer $2000. */
 uint32_t save_at_2000(struct disc *disc, const char *name, struct text sheet);
 

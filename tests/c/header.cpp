@@ -16,6 +16,19 @@ static int is_moved(void)
     return broken_rule(TANDOS_MOVED) == 0 && broken_rule(TANDOS_PLAIN) != 0;
 }
 
+// Worker 500 gets 258 pieces.
+static int is_added_up(void)
+{
+    static const uint8_t sheet[] = {
+        TANDOS_SHEET_PIECES, 0xF4, 1, 2, 1, TANDOS_SHEET_END
+    };
+    static uint32_t totals[TANDOS_WORKERS];
+    uint32_t done =
+        tandos_add_sheet(totals, TANDOS_WORKERS, sheet, sizeof sheet);
+
+    return done == TANDOS_DONE && totals[TANDOS_WORKERS - 1] == 258;
+}
+
 int main(void)
 {
     tandos_image disc = { bytes, sizeof bytes, TANDOS_TEN, TANDOS_MOVED };
@@ -26,5 +39,5 @@ int main(void)
     uint32_t refused = tandos_check(NULL, 0, TANDOS_NINE, TANDOS_PLAIN).number;
 
     return done == TANDOS_DONE && absent == TANDOS_ABSENT && is_moved() &&
-           tandos_refusal_name(refused)[0] == 'S' ? 0 : 1;
+           is_added_up() && tandos_refusal_name(refused)[0] == 'S' ? 0 : 1;
 }

@@ -33,6 +33,9 @@ static const struct test tests[] = {
 static const struct test tests_once[] = {
     { "sectors", test_sectors },
     { "nine", test_nine },
+    { "totals", test_totals },
+    { "limit", test_limit },
+    { "week", test_week },
     { "text", test_text }
 };
 

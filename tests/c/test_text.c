@@ -7,7 +7,7 @@
 
 static const char *const names[] = {
     "DONE", "SIZE", "NAME", "UNSOUND", "ABSENT", "TAKEN", "PROTECTED",
-    "MODULE", "ROOM", "NOT PLAIN", "SHORT", "NO SECTOR"
+    "MODULE", "ROOM", "NOT PLAIN", "SHORT", "NO SECTOR", "BAD SHEET", "TOTAL"
 };
 
 static void numbers(void)
@@ -24,6 +24,8 @@ static void numbers(void)
     EXPECT_NUMBER(9, TANDOS_NOT_PLAIN);
     EXPECT_NUMBER(10, TANDOS_SHORT);
     EXPECT_NUMBER(11, TANDOS_NO_SECTOR);
+    EXPECT_NUMBER(12, TANDOS_BAD_SHEET);
+    EXPECT_NUMBER(13, TANDOS_TOTAL);
 }
 
 /* One sentence each: a full stop at the end and nowhere before. */
@@ -69,12 +71,12 @@ void test_text(void)
     uint32_t number;
 
     numbers();
-    for (number = 0; number <= 11; number++)
+    for (number = 0; number <= 13; number++)
         expect_text("name", names[number], tandos_refusal_name(number));
-    expect_text("name of 12", "?", tandos_refusal_name(12));
+    expect_text("name of 14", "?", tandos_refusal_name(14));
     expect_text("name of 256", "?", tandos_refusal_name(256));
     expect_text("name of the highest", "?", tandos_refusal_name(0xFFFFFFFF));
-    expect_distinct(tandos_refusal_text, 11);
+    expect_distinct(tandos_refusal_text, 13);
     expect_distinct(tandos_rule_text, 8);
     rules_are_named();
 }

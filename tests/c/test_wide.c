@@ -9,6 +9,7 @@
 
 #include "calls.h"
 #include "report.h"
+#include "sheets.h"
 #include "tests.h"
 
 #if SIZE_MAX > 0xFFFFFFFF && !defined(__SANITIZE_ADDRESS__)
@@ -48,6 +49,28 @@ static void long_enough(uint8_t *wide, const uint8_t *image)
     expect_bytes("bytes read", sheet, wide, 245);
 }
 
+/* Cut to 32 bits, the sheet would be an end alone, and the table, or its length
+ * in bytes, that of 500 totals. */
+static void too_long_for_totals(uint8_t *wide)
+{
+    uint32_t totals[TABLE], expected[TABLE];
+    uint8_t end[1] = { 0 };
+    uint32_t *many = calloc(CUT_TO_ZERO + TABLE, sizeof many[0]);
+
+    make_totals(totals, 1, 7);
+    make_totals(expected, 1, 7);
+    wide[0] = 0;
+    EXPECT_NUMBER(12, tandos_add_sheet(totals, TABLE, wide, CUT_TO_ZERO + 1));
+    expect_totals("totals after a refusal", expected, totals);
+    EXPECT_NUMBER(12, tandos_add_sheet((uint32_t *)(void *)wide,
+                                       CUT_TO_ZERO / 4 + TABLE, end, 1));
+    if (many == NULL)
+        puts("wide: a table left out, the machine does not lend 16 GiB");
+    else
+        EXPECT_NUMBER(12, tandos_add_sheet(many, CUT_TO_ZERO + TABLE, end, 1));
+    free(many);
+}
+
 void test_wide(void)
 {
     uint8_t *wide = calloc(CUT_TO_ZERO + track_size(), 1);
@@ -65,6 +88,7 @@ void test_wide(void)
     wide[1] = '.';
     too_long(wide, image);
     long_enough(wide, image);
+    too_long_for_totals(wide);
     free(wide);
 }
 

@@ -18,6 +18,9 @@ void test_order(void);
 void test_arrangement(void);
 void test_sectors(void);
 void test_nine(void);
+void test_totals(void);
+void test_limit(void);
+void test_week(void);
 void test_text(void);
 void test_wide(void);
 

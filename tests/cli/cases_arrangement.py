@@ -159,7 +159,7 @@ def _():
 # What needs a sound disc, after the image's name.
 NEEDS_SOUND = {
     "list": [], "read": ["A"], "save": ["C", "-"], "delete": ["A"],
-    "rename": ["A", "C"], "protect": ["A", "on"],
+    "rename": ["A", "C"], "protect": ["A", "on"], "totals": [],
 }
 
 

@@ -1,9 +1,12 @@
 """What the subcommands do on an image, and what they refuse."""
 
+import fcntl
 import json
 import os
 import pty
+import struct
 import subprocess
+import termios
 
 from disc import Disc, SECTOR, USED_COUNT
 from support import (DONE, REFUSED, TANDOS, case, does, equal, fails, holds,
@@ -266,8 +269,11 @@ def _():
           "THU.PCS           2  protected\n")
 
 
-def on_terminal(*arguments, **environment):
+def on_terminal(*arguments, columns=0, **environment):
+    """What is printed on a terminal of so many columns; 0 is unknown."""
     master, slave = pty.openpty()
+    fcntl.ioctl(slave, termios.TIOCSWINSZ,
+                struct.pack("HHHH", 24, columns, 0, 0))
     process = subprocess.run(
         [TANDOS, *arguments], stdout=slave, stderr=subprocess.PIPE,
         env={**os.environ, "TERM": "xterm", **environment}, timeout=60)

@@ -134,7 +134,8 @@ def _():
     for arguments in (["list", "x"], ["read", "x", "A"], ["check", "x"],
                       ["view", "x", "0/1"], ["delete", "x", "A"],
                       ["rename", "x", "A", "B"], ["protect", "x", "A", "on"],
-                      ["save", "x", "A", "a.img"], ["save", "a.img", "A", "x"]):
+                      ["save", "x", "A", "a.img"], ["save", "a.img", "A", "x"],
+                      ["totals", "a.img", "x"]):
         fails("x: cannot open", *arguments)
     equal(os.listdir("."), ["a.img"])
 

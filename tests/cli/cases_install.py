@@ -6,7 +6,7 @@ import shutil
 import subprocess
 
 from cases_usage import COMMANDS
-from disc import Disc, NINE, TEN, USED_COUNT, moved
+from disc import Disc, NINE, TEN, USED_COUNT, moved, records
 from support import (ROOT, REFUSALS, TANDOS, case, does, equal, holds, read, sheet_of,
                      tandos, write)
 
@@ -72,12 +72,11 @@ def compile_flags(stage, to):
     return process.stdout.decode().split()
 
 
-def build_round():
+def build_example(name):
     flags = compile_flags(*install())
-    source = os.path.join(ROOT, "examples", "round.c")
-    shutil.copy(source, "round.c")
-    subprocess.run([os.environ.get("CC", "cc"), *STRICT, "round.c", *flags,
-                    "-o", "round"], check=True)
+    shutil.copy(os.path.join(ROOT, "examples", f"{name}.c"), f"{name}.c")
+    subprocess.run([os.environ.get("CC", "cc"), *STRICT, f"{name}.c", *flags,
+                    "-o", name], check=True)
 
 
 def go_round(*arguments):
@@ -88,7 +87,7 @@ def go_round(*arguments):
 
 @case("examples/round.c, built against the installed copy")
 def _():
-    build_round()
+    build_example("round")
     expected = Disc.blank(40, "PIECES")
     expected.save("THU1.PCS", sheet_of(300))
     for name in ("a.img", "b.img"):
@@ -110,7 +109,7 @@ def _():
 
 @case("examples/round.c: images in the moved arrangement")
 def _():
-    build_round()
+    build_example("round")
     expected = Disc.blank(40, "PIECES")
     expected.save("OLD", sheet_of(300))
     before = expected.data[:]
@@ -129,7 +128,7 @@ def _():
 
 @case("examples/round.c: images of nine sectors a track")
 def _():
-    build_round()
+    build_example("round")
     expected = {}
     for tracks, sectors in ((40, NINE), (36, TEN)):
         disc = Disc.blank(tracks, "PIECES", sectors)
@@ -151,7 +150,7 @@ def _():
 
 @case("examples/round.c: a disc on which anything is refused stays as it was")
 def _():
-    build_round()
+    build_example("round")
     good = Disc.blank(2, "GOOD")
     good.save("OLD", b"x")
     bad = Disc(good.data)
@@ -176,6 +175,36 @@ def _():
     equal(set(os.listdir(".")), before)
 
 
+@case("examples/week.c, built against the installed copy")
+def _():
+    build_example("week")
+    for name, files in (("a.img", {"MON.PCS": records((7, 120), (500, 1))}),
+                        ("b.img", {"TUESDA.PCS": records((7, 5)),
+                                   "W": records((12, 40))}),
+                        ("bad.img", {"NOTES": b"hello",
+                                     "THU.X": records((7, 1))})):
+        disc = Disc.blank(3, "WEEK")
+        for file, sheet in files.items():
+            disc.save(file, sheet)
+        write(name, disc.data)
+    write("short.img", b"short")
+
+    def add_up(*images):
+        process = subprocess.run(["./week", *images], stdout=subprocess.PIPE,
+                                 stderr=subprocess.PIPE)
+        return (process.returncode, process.stdout.decode(),
+                process.stderr.decode())
+    equal(add_up("a.img", "b.img"),
+          (0, "worker 7: 125 pieces\nworker 12: 40 pieces\n"
+              "worker 500: 1 pieces\n", ""))
+    status, text, error = add_up("bad.img", "short.img", "none.img", "b.img")
+    equal((status, text), (1, "worker 7: 6 pieces\nworker 12: 40 pieces\n"))
+    holds(error, "bad.img: NOTES: refused with 12, BAD SHEET. ")
+    holds(error, "short.img: the list: refused with 1, SIZE. ")
+    holds(error, "none.img: ")
+    equal(error.count("\n"), 3)
+
+
 def page(section):
     return os.path.join(ROOT, "man", f"tandos.{section}")
 
@@ -196,7 +225,7 @@ def _():
 def _():
     text = read(page(1)).decode()
     for command in COMMANDS:
-        holds(text, f".It Cm {command} " if command not in ("save", "map")
+        holds(text, f".It Cm {command} " if command not in ("save", "map", "totals")
               else f".Cm {command} ")
         for option in re.findall(r"-(-[a-z]+)", does(command, "--help").text):
             holds(text, f"Fl {option}")
@@ -226,7 +255,7 @@ def _():
     header = read(os.path.join(ROOT, "include", "tandos.h")).decode()
     header = re.sub(r"/\*.*?\*/", "", header, flags=re.DOTALL)
     calls = re.findall(r"\b(tandos_\w+)\(", header)
-    equal(len(calls), 14)
+    equal(len(calls), 15)
     for call in calls:
         holds(text, f".Nm {call}")
         holds(text, f".It Fn {call}\n")

@@ -15,6 +15,7 @@ COMMANDS = {
     "view": "IMAGE TRACK/SECTOR [--moved | --sectors 9]",
     "map": "IMAGE [--color=WHEN] [--svg FILE] [--moved | --sectors 9]",
     "rearrange": "IMAGE --to moved|plain -o FILE",
+    "totals": "IMAGE.. [OPTION..]",
 }
 
 
@@ -65,7 +66,7 @@ def _():
 def _():
     for command in COMMANDS:
         is_misuse(f"tandos {command}: arguments are missing", command)
-        if command != "check":
+        if command not in ("check", "totals"):
             is_misuse(f"tandos {command}: there is no use for the argument "
                       "'fifth'", command, *(["x"] * count(command)), "fifth")
 
@@ -100,11 +101,22 @@ def _():
 def _():
     is_misuse("exclude each other", "list", "--json", "--table", "a.img")
     is_misuse("exclude each other", "read", "--info", "-o", "x", "a.img", "A")
+    is_misuse("exclude each other", "totals", "--json", "--csv", "a.img")
     is_misuse("no value goes with option '--json'", "list", "--json=1", "a.img")
     is_misuse("no value goes with option '--moved'", "list", "--moved=1",
               "a.img")
     is_misuse("'on' or 'off' is wanted, not 'maybe'", "protect", "a.img", "A",
               "maybe")
+
+
+@case("misuse: an option with a value is given twice")
+def _():
+    for command, option, values in (("save", "--page", ["--page", "1"]),
+                                    ("read", "--output", ["-ox"]),
+                                    ("list", "--sectors", ["--sectors=9"]),
+                                    ("totals", "--sheet", ["--sheet", "A"])):
+        is_misuse(f"tandos {command}: there is no use for a second option "
+                  f"'{option}'\n", command, "a.img", "A", *values, option, "1")
 
 
 @case("misuse: standard input as an image that is changed")
@@ -129,6 +141,7 @@ def _():
     write("a.img", Disc.blank(1, "D").data)
     with open("/dev/full", "wb") as full:
         for arguments in (["--help"], ["--version"], ["list", "a.img"],
-                          ["check", "a.img"], ["view", "a.img", "0/1"]):
+                          ["check", "a.img"], ["view", "a.img", "0/1"],
+                          ["totals", "a.img"], ["totals", "a.img", "--csv"]):
             fails("standard output: cannot write: No space left", *arguments,
                   stdout=full)

@@ -272,3 +272,40 @@ def module_bodies(sheet, page, start, transfer):
     bodies = [bytes([len(part)]) + part for part in parts]
     bodies[0] = header + bodies[0]
     return [body.ljust(254, b"\0") for body in bodies]
+
+
+# The records of a sheet.
+END_RECORD = b"\0"
+DATE_RECORD = b"\2\x16\x11\x26\0"
+WORKERS = 500
+
+
+def pieces_record(worker, pieces):
+    return (b"\1" + worker.to_bytes(2, "little")
+            + pieces.to_bytes(2, "little"))
+
+
+def records(*pairs):
+    """A sheet with a date and these (worker, pieces)."""
+    return (DATE_RECORD + b"".join(pieces_record(*pair) for pair in pairs)
+            + END_RECORD)
+
+
+def sheet_fault(sheet):
+    """The first thing that is wrong with a sheet, in words; None if nothing
+    is."""
+    at = 0
+    while at < len(sheet):
+        kind, left = sheet[at], len(sheet) - at - 1
+        if kind == 0:
+            return f"{left} byte{'' if left == 1 else 's'} after the end" \
+                if left else None
+        if kind > 2:
+            return f"byte {at}: a record of kind {kind}"
+        if left < 4:
+            return "the last record is cut short"
+        worker = sheet[at + 1] + 256 * sheet[at + 2]
+        if kind == 1 and not 1 <= worker <= WORKERS:
+            return f"byte {at}: worker {worker}"
+        at += 5
+    return "no end"

@@ -25,6 +25,9 @@ REFUSALS = {
     8: ("ROOM", "The disc has too few free sectors"),
     9: ("NOT PLAIN", "The file is not a plain load module"),
     11: ("NO SECTOR", "There is no such sector on the disc"),
+    12: ("BAD SHEET", "The file is no sheet of records"),
+    13: ("TOTAL", "A worker's total is, or would become, more than "
+                  "1,000,000,000"),
 }
 
 _cases = []

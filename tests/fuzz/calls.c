@@ -207,3 +207,25 @@ uint32_t call_blank(struct image *image, struct text name)
     give_back_kept(&typed, name.bytes, "blank changes the name");
     return number;
 }
+
+uint32_t call_add_sheet(struct totals *totals, struct text sheet)
+{
+    const uint8_t *each = (const uint8_t *)totals->each;
+    size_t length = totals->count * sizeof totals->each[0];
+    /* An empty table may be lent as NULL. */
+    struct lent table = lend(length == 0 ? NULL : each, length);
+    struct lent records = lend_text(sheet);
+    uint32_t number =
+        tandos_add_sheet((uint32_t *)(void *)table.bytes, totals->count,
+                         records.bytes, records.length);
+    int is_done = number == TANDOS_DONE;
+
+    count_sheet_answer(number);
+    require_kept(&table, each, is_done ? length : 0,
+                 "totals after a refused sheet");
+    if (is_done && length > 0)
+        memcpy(totals->each, table.bytes, length);
+    give_back(&table);
+    give_back_kept(&records, sheet.bytes, "adding up changes the sheet");
+    return number;
+}

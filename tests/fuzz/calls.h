@@ -42,4 +42,7 @@ uint32_t call_rename(struct image *image, struct text old_name,
 uint32_t call_protect(struct image *image, struct text name, uint32_t on);
 uint32_t call_blank(struct image *image, struct text name);
 
+/* On no image. */
+uint32_t call_add_sheet(struct totals *totals, struct text sheet);
+
 #endif

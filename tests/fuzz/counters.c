@@ -5,7 +5,7 @@
 
 #include "finding.h"
 
-#define NUMBERS 12
+#define NUMBERS 14
 #define RULES 9
 #define SIZES 12
 
@@ -51,18 +51,35 @@ static const char *const occasion_names[OCCASIONS] = {
     [SECTOR_ABOVE] = "above"
 };
 
+static const char *const sheet_names[SHEET_OCCASIONS] = {
+    [SHEET_TABLE] = "table", [SHEET_KIND] = "kind", [SHEET_CUT] = "cut",
+    [SHEET_NO_END] = "no-end", [SHEET_AFTER_END] = "after-end",
+    [SHEET_WORKER] = "worker", [SHEET_BOTH] = "12-and-13",
+    [TOTAL_LENT] = "lent", [TOTAL_OTHER] = "lent-other",
+    [TOTAL_REACHED] = "reached", [TOTAL_WIDE] = "33-bits",
+    [TOTAL_EXACT] = "exact", [SHEET_LONG] = "long"
+};
+
+/* The call that adds a sheet up: in the place of a kind of disc, and what it
+ * may answer. */
+#define NO_DISC "no-disc"
+#define SHEET_NUMBERS (BIT(0) | BIT(12) | BIT(13))
+
 /* Where the features of each sort begin. */
 #define RULE_FEATURES (TABLES * CALLS * NUMBERS)
 #define OCCASION_FEATURES (RULE_FEATURES + TABLES * RULES)
 #define SIZE_FEATURES (OCCASION_FEATURES + DISC_KINDS * OCCASIONS)
+#define SHEET_FEATURES (SIZE_FEATURES + 3 * SIZES)
 
 /* libFuzzer clears this section before each input and reads it after. */
 __attribute__((section("__libfuzzer_extra_counters")))
-static uint8_t features[SIZE_FEATURES + 3 * SIZES];
+static uint8_t features[SHEET_FEATURES + NUMBERS + SHEET_OCCASIONS];
 
 static unsigned long answers[TABLES][CALLS][NUMBERS];
 static unsigned long rules[TABLES][RULES];
 static unsigned long occasions[DISC_KINDS][OCCASIONS];
+static unsigned long sheet_answers[NUMBERS];
+static unsigned long sheet_occasions[SHEET_OCCASIONS];
 static int is_on_twin;
 static size_t most_files, most_directory;
 
@@ -134,6 +151,20 @@ void count_occasion(struct stated stated, enum occasion occasion)
     mark(OCCASION_FEATURES + kind * OCCASIONS + occasion);
 }
 
+void count_sheet_answer(uint32_t number)
+{
+    REQUIRE(number < NUMBERS, "a number that is no refusal");
+    REQUIRE(SHEET_NUMBERS & BIT(number), "a number of another call");
+    sheet_answers[number]++;
+    mark(SHEET_FEATURES + number);
+}
+
+void count_sheet_occasion(enum sheet_occasion occasion)
+{
+    sheet_occasions[occasion]++;
+    mark(SHEET_FEATURES + NUMBERS + occasion);
+}
+
 void count_disc(size_t files, size_t directory, size_t free_sectors)
 {
     mark(SIZE_FEATURES + size_class(files));
@@ -146,12 +177,12 @@ void count_disc(size_t files, size_t directory, size_t free_sectors)
 }
 
 /* One row of counts, those that can't occur as '-'. */
-static void print_row(const char *name, unsigned table,
+static void print_row(const char *name, const char *table,
                       const unsigned long *counts, unsigned numbers)
 {
     unsigned number;
 
-    printf("%-8s%-14s", name, table_names[table]);
+    printf("%-8s%-14s", name, table);
     for (number = 0; number < NUMBERS; number++) {
         if (numbers & BIT(number))
             printf("%11lu", counts[number]);
@@ -166,11 +197,11 @@ static void print_table(unsigned table)
     unsigned i;
 
     for (i = 0; i < CALLS; i++)
-        print_row(rows[i].name, table, answers[table][i],
+        print_row(rows[i].name, table_names[table], answers[table][i],
                   numbers_of(table, (enum call)i));
     /* 0 is a sound image. */
     if (is_disc_table(table))
-        print_row("rule", table, rules[table], BIT(RULES) - 1);
+        print_row("rule", table_names[table], rules[table], BIT(RULES) - 1);
 }
 
 static void print_occasions(void)
@@ -188,6 +219,19 @@ static void print_occasions(void)
     putchar('\n');
 }
 
+static void print_sheet_occasions(void)
+{
+    unsigned i;
+
+    printf("%-22s", "occasion");
+    for (i = 0; i < SHEET_OCCASIONS; i++)
+        printf("%11s", sheet_names[i]);
+    printf("\n%-8s%-14s", "sheet", NO_DISC);
+    for (i = 0; i < SHEET_OCCASIONS; i++)
+        printf("%11lu", sheet_occasions[i]);
+    putchar('\n');
+}
+
 static void report(void)
 {
     unsigned i;
@@ -198,7 +242,9 @@ static void report(void)
     putchar('\n');
     for (i = 0; i < TABLES; i++)
         print_table(i);
+    print_row("add", NO_DISC, sheet_answers, SHEET_NUMBERS);
     print_occasions();
+    print_sheet_occasions();
     printf("sound discs: at most %zu files, at most %zu directory sectors\n",
            most_files, most_directory);
 }

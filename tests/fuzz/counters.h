@@ -42,6 +42,30 @@ enum occasion {
 /* What is stated is a kind of disc. */
 void count_occasion(struct stated stated, enum occasion occasion);
 
+/* Counts an answer of the call that adds a sheet up, which is on no disc. */
+void count_sheet_answer(uint32_t number);
+
+/* What has to occur with sheets: each reason for 12, each form of 13, both at
+ * once, and what is only just accepted. */
+enum sheet_occasion {
+    SHEET_TABLE,     /* 12: not as many totals as workers */
+    SHEET_KIND,      /* 12: a record of another kind */
+    SHEET_CUT,       /* 12: a record cut short */
+    SHEET_NO_END,    /* 12: no end */
+    SHEET_AFTER_END, /* 12: bytes after the end */
+    SHEET_WORKER,    /* 12: no such worker */
+    SHEET_BOTH,      /* 12, where a total is too high as well */
+    TOTAL_LENT,      /* 13: a total of a worker in the sheet is lent too high */
+    TOTAL_OTHER,     /* 13: a total of a worker who isn't in the sheet is */
+    TOTAL_REACHED,   /* 13: a total becomes too high */
+    TOTAL_WIDE,      /* 13: a total would become more than 32 bits hold */
+    TOTAL_EXACT,     /* 0: a total is exactly the limit */
+    SHEET_LONG,      /* 0: a sheet that no file can hold */
+    SHEET_OCCASIONS
+};
+
+void count_sheet_occasion(enum sheet_occasion occasion);
+
 /* Counts a sound disc by its files, directory sectors and free sectors. */
 void count_disc(size_t files, size_t directory, size_t free_sectors);
 

@@ -31,6 +31,7 @@ enum command {
     COMMAND_BLANK,   /* name */
     COMMAND_VIEW,    /* track number, sector number */
     COMMAND_TEXT,    /* number */
+    COMMAND_ADD,     /* totals, records: a sheet added to totals */
     COMMAND_SYSTEM,  /* byte (1), value (1): changes the system sector */
     COMMAND_LINK,    /* sector number (2), track (1), sector (1) */
     COMMAND_BYTE,    /* sector number (2), byte (1), value (1) */
@@ -93,6 +94,55 @@ enum buffer {
     BUFFER_LENGTH /* then the length (2) */
 };
 
+/* Totals begin with how they differ from those that the last sheet left, by the
+ * remainder. From TOTALS_LENGTH on their number (2) comes first. */
+enum totals_kind {
+    TOTALS_KEPT,
+    TOTALS_ZERO,
+    TOTALS_NEAR,  /* below (1): all of them, so far below the limit */
+    TOTALS_PLACE, /* place (2), total (4): one of them */
+    TOTALS_LIMIT, /* place (2), LIMIT_ITSELF and the difference (1): one */
+    TOTALS_STEPS, /* step (4): from the limit on, each lower by this */
+    TOTALS_KINDS
+};
+
+#define TOTALS_LENGTH 0xE0
+#define TOTALS_MOST 1001
+#define LIMIT_ITSELF 128
+
+/* Records begin with one of these, by the remainder. */
+enum records_kind {
+    RECORDS_BUILT, /* groups (1), each a record, an end, a damage */
+    RECORDS_BYTES, /* length (1), the sheet's bytes; RECORDS_NULL for NULL */
+    RECORDS_KINDS
+};
+
+#define RECORDS_NULL 0xFF
+#define GROUPS_MOST 64
+
+/* A record begins with one of these, by the remainder. From RECORD_MANY on it
+ * comes more than once: before it stands how often (3). */
+enum record_kind {
+    RECORD_PIECES, /* worker (2), by the remainder from 1 on; pieces (2) */
+    RECORD_DATE,   /* the body (4) */
+    RECORD_BYTES,  /* all five bytes */
+    RECORD_KINDS
+};
+
+#define RECORD_MANY 0xF0
+
+/* So many of 65,535 pieces are above 32 bits. */
+#define RECORDS_MOST 66000
+
+/* What becomes of a sheet that is built; from DAMAGES on, nothing as well. */
+enum damage {
+    DAMAGE_NONE,
+    DAMAGE_CUT,  /* count (1): so many bytes and one less */
+    DAMAGE_MORE, /* count (1), byte (1): so many bytes and one more */
+    DAMAGE_BYTE, /* place (3), from behind; byte (1) */
+    DAMAGES
+};
+
 #define SHEET_MOST 65537
 #define NAME_MOST 15
 #define BUFFER_MOST (65536 + 16)
@@ -110,6 +160,12 @@ struct stated {
 struct text {
     const uint8_t *bytes; /* NULL only with length 0 */
     size_t length;
+};
+
+/* The totals of a call, not always as many as there are workers. */
+struct totals {
+    size_t count;
+    uint32_t each[TOTALS_MOST];
 };
 
 struct name {

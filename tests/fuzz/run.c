@@ -6,6 +6,7 @@
 #include "expected.h"
 #include "finding.h"
 #include "promises.h"
+#include "sheets.h"
 #include "twins.h"
 
 /* More would slow each execution down and reach little that is new. */
@@ -220,7 +221,7 @@ static void run_text(struct input *input)
     uint32_t number = take_number(input);
     int is_unknown = strcmp(tandos_refusal_name(number), "?") == 0;
 
-    REQUIRE(is_unknown == (number > TANDOS_NO_SECTOR), "name of a number");
+    REQUIRE(is_unknown == (number > TANDOS_TOTAL), "name of a number");
     REQUIRE(strlen(tandos_refusal_text(number)) > 0, "text of a number");
     REQUIRE(strlen(tandos_rule_text(number)) > 0, "text of a rule");
 }
@@ -327,6 +328,9 @@ static void run_command(enum command command, struct input *input)
     case COMMAND_TEXT:
         run_text(input);
         break;
+    case COMMAND_ADD:
+        run_add_sheet(input);
+        break;
     case COMMAND_SYSTEM:
         change_system(input);
         break;
@@ -415,6 +419,7 @@ void run_input(struct input *input)
     unsigned commands;
 
     is_state_known = 0;
+    begin_totals();
     now->image.stated = take_stated(input);
     if (start == START_BLANK)
         start_blank(input);

@@ -8,6 +8,7 @@
 #include <string.h>
 
 #include "seed.h"
+#include "seeds_sheets.h"
 #include "seeds_stated.h"
 
 /* On a disc of one track: 0/4 is the directory, 0/7 the first free sector. */
@@ -32,7 +33,7 @@ static void seed_commands(void)
     put(COMMAND_PROTECT, 0, 0, COMMAND_RENAME, 0, 2, COMMAND_DELETE, 2, -1);
     put(COMMAND_RENAME, 1, 1, COMMAND_DELETE, 7, COMMAND_CHECK, -1);
     put(COMMAND_VIEW, 0, 1, COMMAND_VIEW, 1, 1, COMMAND_VIEW, 0, 0, -1);
-    put(COMMAND_VIEW, NUMBER_WIDE, 0, 1, 0, 0, 1, COMMAND_TEXT, 11, -1);
+    put(COMMAND_VIEW, NUMBER_WIDE, 0, 1, 0, 0, 1, COMMAND_TEXT, 13, -1);
     put(COMMAND_BLANK, NAME_TYPED + 2, 'A', '9', COMMAND_BLANK, NAME_NULL, -1);
     end("commands");
 }
@@ -360,5 +361,6 @@ int main(int argc, char **argv)
         write_seeds();
     }
     write_wrong_runs();
+    write_sheet_seeds();
     return EXIT_SUCCESS;
 }

@@ -280,19 +280,13 @@ pub fn byte_in(image: &[u8], g: Geometry, s: Sector, k: usize) -> u8
     image[start + k]
 }
 
-fn word(low: u8, high: u8) -> u16
-    ensures { λ r. ⌜ r ≡ low + 256 * high ⌝ }
-{
-    low as u16 + 256 * (high as u16)
-}
-
 // The sixteen bits at place k of sector n, low byte first.
 pub fn word_of(image: &[u8], g: Geometry, n: SectorNo, k: usize) -> u16
     requires { ⌜ Image g (now image) × (n .0 < g .sectors) × (k + 1 < 256) ⌝ }
     ensures { λ r. ⌜ r ≡ wordAt (sector (sectorsOf g (now (image .entry))) (n .0)) k ⌝ }
 {
     let at = start_of(g, n) + k;
-    word(image[at], image[at + 1])
+    bytes::word(image[at], image[at + 1])
 }
 
 // Where the link of sector n leads.

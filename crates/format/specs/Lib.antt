@@ -1,5 +1,6 @@
 pub mod Lists
 pub mod ListLaws
+pub mod Permutations
 pub mod Refusals
 pub mod RefusalLaws
 pub mod Geometry

@@ -22,7 +22,7 @@ use Rattle.soundness.specs.Slots.{inUse-many, slots-many}
 use Rattle.soundness.specs.Filed.{entriesOf}
 use Rattle.soundness.specs.Laid.{sound-laid}
 use Rattle.soundness.specs.Pointers.{Bounded}
-use Rattle.history.specs.Permutations.{as-is}
+use Rattle.format.specs.Permutations.{as-is}
 use Rattle.history.specs.BookFiles.{fileOf, filesOf}
 use Rattle.history.specs.State.{State, protect-state, delete-state, rename-state, save-state}
 use Rattle.history.specs.Moments.{moment}

@@ -1,6 +1,5 @@
 pub mod History
 pub mod Demand3
-pub mod Permutations
 pub mod OnlyOne
 pub mod BookFiles
 pub mod RenameProtect

@@ -29,7 +29,7 @@ use Rattle.soundness.specs.Filed.{GoodEntry, chain-few, entriesOf, chainsOf, di
 use Rattle.soundness.specs.Laid.{free-few, free-is, laid-sound}
 use Rattle.soundness.specs.Frames.{laid-sum}
 use Rattle.soundness.specs.Found.{slot-length, find-is, open-none, open-some}
-use Rattle.history.specs.Permutations.{perm-map, perm-filter, perm-length, perm-all, perm-back, perm-few, perm-sum}
+use Rattle.format.specs.Permutations.{perm-map, perm-filter, perm-length, perm-all, perm-back, perm-few, perm-sum}
 use Rattle.history.specs.OnlyOne.{any-head, one-at, all-got}
 use Rattle.history.specs.BookFiles.{fileOf, filesOf, named-files, named-few}
 use Rattle.history.specs.Answers.{number-same}

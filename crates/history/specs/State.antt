@@ -27,7 +27,7 @@ use Rattle.soundness.specs.Filed.{entriesOf}
 use Rattle.soundness.specs.Laid.{Laid, free-is}
 use Rattle.soundness.specs.Found.{found, not-found, open-none, open-some}
 use Rattle.soundness.specs.Pointers.{Bounded}
-use Rattle.history.specs.Permutations.{Perm, skip, next, perm-front, perm-map, perm-filter, perm-length}
+use Rattle.format.specs.Permutations.{Perm, skip, next, perm-front, perm-map, perm-filter, perm-length}
 use Rattle.history.specs.OnlyOne.{without-one, changed-one}
 use Rattle.history.specs.BookFiles.{fileOf, filesOf, named-few}
 use Rattle.history.specs.RenameProtect.{renamed-entry, protected-entry}

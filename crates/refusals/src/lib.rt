@@ -1,4 +1,4 @@
-// Document 01's refusal numbers, as the calls answer them. 0 is done.
+// Document 01's refusal numbers and those that document 02 adds, as the calls answer them. 0 is done.
 pub const DONE: u32 = 0;
 
 pub const SIZE: u32 = 1;
@@ -22,3 +22,7 @@ pub const NOT_PLAIN: u32 = 9;
 pub const SHORT: u32 = 10;
 
 pub const NO_SECTOR: u32 = 11;
+
+pub const BAD_SHEET: u32 = 12;
+
+pub const TOTAL: u32 = 13;

@@ -10,6 +10,7 @@ ghost use Rattle.format.specs.Calls.{answered, afterCheck, afterList, afterRead
 ghost use Rattle.listing.specs.Meaning.{listAnswer};
 ghost use Rattle.reading.specs.Answer.{readAnswer};
 ghost use Rattle.saving.specs.Meaning.{handed};
+ghost use Rattle.totals.specs.Totals.{afterSheet};
 ghost use Rattle.tandos.specs.Meaning.{checkAnswer};
 
 // The answer of the check: the number, and the lowest broken rule, 0 for a sound image.
@@ -192,4 +193,12 @@ pub extern "C" fn tandos_view_start(
         arrangement,
     };
     view::view_start(image, kind, track, sector)
+}
+
+// Adds a sheet to running totals.
+#[no_mangle]
+pub extern "C" fn tandos_add_sheet(totals: &mut [u32], sheet: &[u8]) -> u32
+    ensures { λ r. ⌜ record { number = r; totals = now (totals .exit) } ≡ afterSheet (now (totals .entry)) (now (sheet .entry)) ⌝ }
+{
+    totals::add_sheet(totals, sheet)
 }

@@ -4,9 +4,10 @@
 //! trace SEED COUNT MAX_TRACKS            runs on sound discs
 //! trace damaged SEED COUNT MAX_TRACKS    damaged images and their check
 //! trace refused SEED COUNT MAX_TRACKS    runs on damaged images
+//! trace totals SEED COUNT                runs of weekly totals
 //! ```
 //!
-//! In front of these may stand, in either order, the two numbers stated with
+//! In front of the first three may stand, in either order, the two numbers stated with
 //! every call: `--sectors N`, 10 as without it, or 9; and `--arrangement N`, 0
 //! plain as without it, or 1 moved. If N is given twice, the last counts. With
 //! other numbers, or 9 and 1, the images are plain, of nine sectors if `--sectors`
@@ -53,20 +54,48 @@
 //! moment FREE DIRECTORY FILES
 //! ```
 //!
+//! With `totals` there is no image. A run begins with its table of totals,
+//! worker 1 first: LENGTH totals, told as TIMES totals of VALUE each, again and
+//! again. The line `reordered` follows if the run has the same table and the
+//! same sheets as the run before, in an order drawn anew.
+//!
+//! ```text
+//! table LENGTH TIMES VALUE TIMES VALUE ...
+//! reordered
+//! ```
+//!
+//! It goes on with up to six sheets, each added to the totals as the one before
+//! left them. SHEET is HEX. After each stand the totals that it changed, with
+//! their VALUE after the call and ascending by worker, and the growth: the sum
+//! of all pieces in the sheets that the run accepted so far. Sheets mostly have
+//! at most some 200 bytes, and some about 2,000.
+//!
+//! ```text
+//! add SHEET = NUMBER
+//! total WORKER VALUE
+//! growth PIECES
+//! ```
+//!
 //! The last line of all is `end COUNT`.
 
 use reference::command::{Answer, Command};
-use reference::generate::{command, damaged_disc, sound_disc, Random};
+use reference::generate::{command, damaged_disc, sound_disc, totals_run, Random, TotalsRun};
 use reference::history::Book;
+use reference::totals_book::TotalsBook;
 use std::io::{self, BufWriter, Write};
 use std::process::ExitCode;
 
 const USAGE: &str =
-    "usage: trace [--sectors N] [--arrangement N] [damaged|refused] SEED COUNT MAX_TRACKS";
+    "usage: trace [--sectors N] [--arrangement N] [damaged|refused] SEED COUNT MAX_TRACKS
+       trace totals SEED COUNT";
 /// Stated unless the options say otherwise.
 const SECTORS: u32 = 10;
 const ARRANGEMENT: u32 = 0;
 const MOST_COMMANDS: usize = 12;
+const MOST_SHEETS: usize = 6;
+/// Records of five bytes: sheets of some 200 bytes, or some 2,000.
+const FEW_RECORDS: usize = 40;
+const MANY_RECORDS: usize = 400;
 
 #[derive(Clone, Copy, PartialEq, Eq)]
 enum Mode {
@@ -75,7 +104,12 @@ enum Mode {
     Refused,
 }
 
-struct Request {
+enum Request {
+    Discs(Discs),
+    Totals { seed: u64, count: usize },
+}
+
+struct Discs {
     sectors: u32,
     arrangement: u32,
     mode: Mode,
@@ -94,7 +128,11 @@ fn main() -> ExitCode {
         }
     };
     let mut out = BufWriter::new(io::stdout().lock());
-    match trace(&request, &mut out).and_then(|()| out.flush()) {
+    let traced = match request {
+        Request::Discs(discs) => trace_discs(&discs, &mut out),
+        Request::Totals { seed, count } => trace_totals(seed, count, &mut out),
+    };
+    match traced.and_then(|()| out.flush()) {
         Ok(()) => ExitCode::SUCCESS,
         Err(error) => {
             eprintln!("trace: {error}");
@@ -103,7 +141,17 @@ fn main() -> ExitCode {
     }
 }
 
-fn parse(mut arguments: &[String]) -> Option<Request> {
+fn parse(arguments: &[String]) -> Option<Request> {
+    match arguments {
+        [form, seed, count] if form == "totals" => Some(Request::Totals {
+            seed: seed.parse().ok()?,
+            count: count.parse().ok()?,
+        }),
+        _ => parse_discs(arguments).map(Request::Discs),
+    }
+}
+
+fn parse_discs(mut arguments: &[String]) -> Option<Discs> {
     let (mut sectors, mut arrangement) = (SECTORS, ARRANGEMENT);
     while let [word, number, rest @ ..] = arguments {
         match word.as_str() {
@@ -119,7 +167,7 @@ fn parse(mut arguments: &[String]) -> Option<Request> {
         _ => (Mode::Sound, arguments),
     };
     match numbers {
-        [seed, count, max_tracks] => Some(Request {
+        [seed, count, max_tracks] => Some(Discs {
             sectors,
             arrangement,
             mode,
@@ -131,7 +179,7 @@ fn parse(mut arguments: &[String]) -> Option<Request> {
     }
 }
 
-fn trace(request: &Request, out: &mut impl Write) -> io::Result<()> {
+fn trace_discs(request: &Discs, out: &mut impl Write) -> io::Result<()> {
     let mut random = Random::new(request.seed);
     let max_tracks = request.max_tracks;
     let (sectors, arrangement) = (request.sectors, request.arrangement);
@@ -251,6 +299,63 @@ fn answers(answer: &Answer) -> String {
             bytes,
         } => format!("{number} {start} {}", hex(bytes)),
     }
+}
+
+fn trace_totals(seed: u64, count: usize, out: &mut impl Write) -> io::Result<()> {
+    let mut random = Random::new(seed);
+    let mut before: Option<TotalsRun> = None;
+    for _ in 0..count {
+        let again = before.filter(|run| run.sheets.len() > 1 && random.one_in(3));
+        let reordered = again.is_some();
+        let run = match again {
+            Some(run) => run.reordered(&mut random),
+            None => fresh_totals_run(&mut random),
+        };
+        print_table(&run.totals, out)?;
+        if reordered {
+            writeln!(out, "reordered")?;
+        }
+        run_totals(&run, out)?;
+        before = Some(run);
+    }
+    writeln!(out, "end {count}")
+}
+
+fn fresh_totals_run(random: &mut Random) -> TotalsRun {
+    let most_records = if random.one_in(12) {
+        MANY_RECORDS
+    } else {
+        FEW_RECORDS
+    };
+    totals_run(random, MOST_SHEETS, most_records)
+}
+
+fn print_table(totals: &[u32], out: &mut impl Write) -> io::Result<()> {
+    write!(out, "table {}", totals.len())?;
+    let mut left = totals;
+    while let Some(&value) = left.first() {
+        let times = left.iter().take_while(|&&total| total == value).count();
+        write!(out, " {times} {value}")?;
+        left = &left[times..];
+    }
+    writeln!(out)
+}
+
+fn run_totals(run: &TotalsRun, out: &mut impl Write) -> io::Result<()> {
+    let mut totals = run.totals.clone();
+    let mut book = TotalsBook::start(&totals);
+    for sheet in &run.sheets {
+        let before = totals.clone();
+        let number = reference::add_sheet(&mut totals, sheet);
+        writeln!(out, "add {} = {number}", hex(sheet))?;
+        let pairs = before.iter().zip(&totals).enumerate();
+        for (at, (_, now)) in pairs.filter(|(_, (old, now))| old != now) {
+            writeln!(out, "total {} {now}", at + 1)?;
+        }
+        book.record(sheet, number == 0);
+        writeln!(out, "growth {}", book.growth())?;
+    }
+    Ok(())
 }
 
 fn hex(bytes: &[u8]) -> String {

@@ -13,4 +13,5 @@ mod not_plain;
 mod refusals;
 mod runs;
 mod sectors;
+mod totals;
 mod trace;

@@ -321,10 +321,116 @@ fn a_seed_gives_the_same_runs_in_either_arrangement() {
     }
 }
 
+/// One table as the sheets make it, and one as the trace says it changed.
+#[derive(Default)]
+struct TotalsReplay {
+    start: Vec<u32>,
+    made: Vec<u32>,
+    told: Vec<u32>,
+    sheets: Vec<String>,
+    /// Table and sheets of the run before.
+    start_before: Vec<u32>,
+    sheets_before: Vec<String>,
+    reordered: bool,
+    runs: usize,
+    reordered_runs: usize,
+    /// How often each of the numbers 0 to 13 was answered.
+    answers: [usize; 14],
+    longest_sheet: usize,
+}
+
+impl TotalsReplay {
+    fn line(&mut self, line: &str) {
+        let fields: Vec<&str> = line.split(' ').collect();
+        match *fields {
+            ["table", length, ..] => {
+                self.end_run();
+                self.begin(&fields[2..]);
+                assert_eq!(self.start.len(), number::<usize>(length));
+            }
+            ["reordered"] => self.reordered = true,
+            ["add", sheet, "=", answer] => {
+                self.sheets.push(sheet.to_string());
+                self.add(&bytes(sheet), number(answer));
+            }
+            ["total", worker, value] => {
+                let total = &mut self.told[number::<usize>(worker) - 1];
+                assert!(*total != number(value), "told, but not changed");
+                *total = number(value);
+            }
+            ["growth", pieces] => self.growth(number(pieces)),
+            ["end", count] => {
+                self.end_run();
+                assert_eq!(number::<usize>(count), self.runs);
+            }
+            _ => panic!("no line of totals: {line}"),
+        }
+    }
+
+    fn begin(&mut self, told: &[&str]) {
+        let table: Vec<u32> = told
+            .chunks(2)
+            .flat_map(|pair| vec![number(pair[1]); number(pair[0])])
+            .collect();
+        self.reordered = false;
+        self.sheets_before = std::mem::take(&mut self.sheets);
+        self.start_before = std::mem::replace(&mut self.start, table.clone());
+        self.made = table.clone();
+        self.told = table;
+        self.runs += 1;
+    }
+
+    fn end_run(&mut self) {
+        if self.reordered {
+            assert!(self.start_before == self.start);
+            self.sheets_before.sort();
+            let mut sheets = self.sheets.clone();
+            sheets.sort();
+            assert_eq!(self.sheets_before, sheets);
+            self.reordered_runs += 1;
+        }
+    }
+
+    fn add(&mut self, sheet: &[u8], answer: usize) {
+        let number = reference::add_sheet(&mut self.made, sheet);
+        assert_eq!(number as usize, answer);
+        self.answers[answer] += 1;
+        self.longest_sheet = self.longest_sheet.max(sheet.len());
+    }
+
+    fn growth(&self, pieces: u64) {
+        assert!(self.made == self.told);
+        let sum = |totals: &[u32]| -> u64 { totals.iter().map(|&total| u64::from(total)).sum() };
+        assert_eq!(sum(&self.told), sum(&self.start) + pieces);
+    }
+}
+
+#[test]
+fn runs_of_weekly_totals() {
+    let mut replay = TotalsReplay::default();
+    for line in trace(&["totals", "5", "400"]) {
+        replay.line(&line);
+    }
+    assert_eq!(replay.runs, 400);
+    assert!(replay.reordered_runs > 40, "{}", replay.reordered_runs);
+    for number in [0, 12, 13] {
+        assert!(replay.answers[number] > 200, "{:?}", replay.answers);
+    }
+    let longest = replay.longest_sheet;
+    assert!((1_000..2_200).contains(&longest), "{longest}");
+    let none = trace(&["totals", "5", "0"]);
+    assert_eq!(none, ["end 0"]);
+}
+
 #[test]
 fn wrong_arguments_are_refused() {
     for arguments in [
         &["1", "2"][..],
+        &["totals", "1"],
+        &["totals", "1", "2", "3"],
+        &["totals", "x", "2"],
+        &["totals", "1", "-2"],
+        &["--sectors", "9", "totals", "1", "2"],
         &["x", "2", "3"],
         &["1", "2", "0"],
         &["1", "2", "81"],

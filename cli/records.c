@@ -1,0 +1,14 @@
+#include "records.h"
+
+#include "tandos.h"
+#include "text.h"
+
+struct file_record file_record(const uint8_t *record)
+{
+    struct file_record file;
+
+    file.name = record + 1;
+    file.sectors = word_at(record + 10);
+    file.is_protected = record[12] == TANDOS_ATTRIBUTE_PROTECTED;
+    return file;
+}

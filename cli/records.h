@@ -1,0 +1,16 @@
+/* The records of a list. */
+#ifndef RECORDS_H
+#define RECORDS_H
+
+#include <stdbool.h>
+#include <stdint.h>
+
+struct file_record {
+    const uint8_t *name; /* nine bytes, as stored */
+    unsigned sectors;
+    bool is_protected;
+};
+
+struct file_record file_record(const uint8_t *record);
+
+#endif
