@@ -2,10 +2,9 @@
 
 use crate::measure::Work;
 use crate::program::Program;
+use compare::table::{BAD_SHEET, LIMIT, TOTAL, WORKERS};
 use reference::generate::Random;
 
-const WORKERS: usize = 500;
-const LIMIT: u32 = 1_000_000_000;
 /// With the end 65,536 bytes, the longest sheet of a file.
 const MOST_RECORDS: usize = 13_107;
 const FEW_RECORDS: usize = 10;
@@ -13,8 +12,6 @@ const FEW_RECORDS: usize = 10;
 const MOST_PIECES: usize = 100;
 const DATE: [u8; 5] = [2, 16, 11, 26, 20];
 const END: u8 = 0;
-const BAD_SHEET: u32 = 12;
-const TOTAL: u32 = 13;
 
 /// A sheet, the totals that it is first added to, and what every call answers.
 #[derive(Debug, Clone, PartialEq, Eq)]

@@ -20,6 +20,6 @@ pub mod run;
 mod several;
 mod sheet_case;
 mod sheet_tally;
-mod table;
+pub mod table;
 mod tally;
 mod twin;

@@ -3,13 +3,9 @@
 //! A reason for 12, or none, and a reason for 13, or none, are drawn, and table
 //! and sheet are made for them. So the answer is known without either program.
 
+use crate::table::{BAD_SHEET, DONE, LIMIT, TOTAL, WORKERS};
 use reference::generate::{edge_sheet, good_sheet, spoil, Random, Spoil};
 
-const WORKERS: usize = 500;
-const LIMIT: u32 = 1_000_000_000;
-const DONE: u32 = 0;
-const BAD_SHEET: u32 = 12;
-const TOTAL: u32 = 13;
 const END: u8 = 0;
 const PIECES: u8 = 1;
 

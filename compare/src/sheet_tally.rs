@@ -3,16 +3,13 @@
 
 use crate::kind::Kind;
 use crate::sheet_case::{can_both_hold, Bad, High};
+use crate::table::{BAD_SHEET, DONE, LIMIT, TOTAL};
 use reference::totals_book::pieces_of_workers;
 use std::collections::BTreeMap;
 use std::fmt::{Formatter, Result};
 
 pub const CALL: &str = "add sheet";
 const ANSWERS: [u32; 3] = [DONE, BAD_SHEET, TOTAL];
-const DONE: u32 = 0;
-const BAD_SHEET: u32 = 12;
-const TOTAL: u32 = 13;
-const LIMIT: u64 = 1_000_000_000;
 const LONGEST_FILE: usize = 65_536;
 
 /// What a call or a run of calls must meet beside its answers.
@@ -76,7 +73,7 @@ impl SheetTally {
     }
 
     fn added(&mut self, totals: &[u32], sheet: &[u8], pieces: &[u64]) {
-        let reaches_limit = grown(totals, pieces).any(|total| total == LIMIT);
+        let reaches_limit = grown(totals, pieces).any(|total| total == u64::from(LIMIT));
         for (occurred, mark) in [
             (sheet.len() == 1, Mark::EndAlone),
             (sheet.len() > LONGEST_FILE, Mark::Longer),
@@ -92,11 +89,11 @@ impl SheetTally {
 
     /// Counts only what the sheet brings about: no lent total is too high.
     fn too_high(&mut self, totals: &[u32], pieces: &[u64]) {
-        if totals.iter().any(|&total| u64::from(total) > LIMIT) {
+        if totals.iter().any(|&total| total > LIMIT) {
             return;
         }
         let highest = grown(totals, pieces).max().unwrap_or_default();
-        if highest == LIMIT + 1 {
+        if highest == u64::from(LIMIT) + 1 {
             self.mark(Mark::OneAbove);
         }
         if highest > u64::from(u32::MAX) {
@@ -257,15 +254,14 @@ mod tests {
 
     #[test]
     fn a_call_is_counted_by_what_its_sheet_brings_about() {
-        let limit = LIMIT as u32;
         let two_of_last = [1, 0xF4, 1, 2, 0, 0];
         assert_eq!(marks_of(0, &[0], DONE), [Mark::EndAlone]);
-        assert_eq!(marks_of(limit, &[0], DONE), [Mark::EndAlone]);
+        assert_eq!(marks_of(LIMIT, &[0], DONE), [Mark::EndAlone]);
         assert_eq!(marks_of(5, &two_of_last, DONE), [Mark::LastWorker]);
         let reached = [Mark::LastWorker, Mark::AtLimit];
-        assert_eq!(marks_of(limit - 2, &two_of_last, DONE), reached);
-        assert_eq!(marks_of(limit - 1, &two_of_last, TOTAL), [Mark::OneAbove]);
-        assert_eq!(marks_of(limit, &two_of_last, TOTAL), []);
+        assert_eq!(marks_of(LIMIT - 2, &two_of_last, DONE), reached);
+        assert_eq!(marks_of(LIMIT - 1, &two_of_last, TOTAL), [Mark::OneAbove]);
+        assert_eq!(marks_of(LIMIT, &two_of_last, TOTAL), []);
         assert_eq!(marks_of(u32::MAX, &two_of_last, TOTAL), []);
         assert_eq!(marks_of(0, &[1, 0xF4], BAD_SHEET), []);
         let mut long = [1, 1, 0, 255, 255].repeat(66_000);

@@ -7,7 +7,11 @@ use crate::library::{beside, in_or_beside};
 use reference::generate::Random;
 use reference::totals_book::{call_fault, order_fault, TotalsBook};
 
-const DONE: u32 = 0;
+pub const WORKERS: usize = 500;
+pub const LIMIT: u32 = 1_000_000_000;
+pub const DONE: u32 = 0;
+pub const BAD_SHEET: u32 = 12;
+pub const TOTAL: u32 = 13;
 /// Zeros that may stand behind a sheet. They end one without an end, or with a
 /// cut record, for a call that reads on.
 const ZEROS_BEHIND: [usize; 2] = [0, 8];

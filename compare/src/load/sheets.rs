@@ -2,14 +2,11 @@
 
 use crate::difference::describe_adding;
 use crate::sheet_tally::SheetTally;
-use crate::table::{of_library, Table};
+use crate::table::{of_library, Table, DONE, LIMIT, WORKERS};
 use reference::generate::{edge_sheet, good_sheet, spoil, Random, Spoil};
 use reference::totals_book::moment_fault;
 use std::fmt;
 
-const DONE: u32 = 0;
-const WORKERS: usize = 500;
-const LIMIT: u32 = 1_000_000_000;
 /// One total in so many is near the limit from the start, so that the limit is
 /// met early; more of them would refuse most sheets in the end.
 const NEAR_IN: usize = 100;

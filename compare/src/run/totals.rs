@@ -8,15 +8,11 @@ use crate::kind::Kind;
 use crate::pair::Pair;
 use crate::sheet_case::{record, SheetCase, TOO_HIGH};
 use crate::sheet_tally::Mark;
-use crate::table::{orders_fault, Table};
+use crate::table::{orders_fault, Table, DONE, LIMIT, TOTAL, WORKERS};
 use reference::command::{Answer, Buffer, Command};
 use reference::generate::{edge_sheet, good_sheet, spoil, totals_run, Random, Spoil, TotalsRun};
 
-const DONE: u32 = 0;
-const TOTAL: u32 = 13;
 const END: u8 = 0;
-const WORKERS: usize = 500;
-const LIMIT: u32 = 1_000_000_000;
 const CASES_IN_A_RUN: usize = 16;
 /// One run in so many is of cases.
 const CASES_IN: usize = 3;

@@ -71,6 +71,9 @@ module _ (s : List ℕ) (k : ℕ) where
 
 -- ---- a record that a sheet may have, and one that it may not
 
+pub worker-range : (w : ℕ) → isWorker w ≡ true → (1 ≤ w) × (w ≤ workers)
+worker-range w h = let both = and-true (leb 1 w) (leb w workers) h in (leb-true 1 w (both .0), leb-true w workers (both .1))
+
 good-front : (kind : ℕ) (body : List ℕ) (cs : Option (List Credit)) → isRecord kind body ≡ true → isSome (inFront kind body cs) ≡ isSome cs
 good-front kind body cs h = by (eqb kind 1) (isWorker (creditOf body .worker)) (eqb kind 2) cs h
   where
@@ -173,6 +176,10 @@ low-at ts w i h = leb-true (getD ts i 0) maxTotal (all-getD {P = λ t. leb t max
 
 -- ---- one credit
 
+pub credit-long : (c : Credit) (ts : List ℕ) → length (addCredit c ts) ≡ length ts
+unfolding addCredit
+credit-long c ts = length-set ts (c .worker - 1) (getD ts (c .worker - 1) 0 + c .pieces)
+
 module _ (c : Credit) (was sums : List ℕ) (r : Bool) (running : Running was) (does : Credits c was sums r) where
   credited-running : r ≡ true → Running sums
   unfolding addCredit
@@ -181,7 +188,7 @@ module _ (c : Credit) (was sums : List ℕ) (r : Bool) (running : Running was) (
       let v : ℕ = getD was i 0 + c .pieces in
       subst Running (sym (does .added e))
       (record {
-        long = length-set was i v ∙ running .long;
+        long = credit-long c was ∙ running .long;
         low = true-all (all-set i v (all-true was (running .low)) (sym (does .fits) ∙ e));
       })
 
@@ -191,7 +198,7 @@ module _ (c : Credit) (was sums : List ℕ) (r : Bool) (running : Running was) (
       let i : ℕ = c .worker - 1 in
       let v : ℕ = getD was i 0 + c .pieces in
       let fits : i < length was = omega (arith, running .long) in
-      over-at (addCredit c was) i (omega (arith, length-set was i v))
+      over-at (addCredit c was) i (omega (arith, credit-long c was))
       (omega (arith, getD-set-same was i v 0 fits, leb-false v maxTotal (sym (does .fits) ∙ e)))
 
 -- ---- a record added to sums
@@ -223,13 +230,8 @@ module _ (s : List ℕ) (k : ℕ) (was : List ℕ) (running : Running was) where
     worker-is : isWorker (creditOf (bodyAt s k) .worker) ≡ true
     worker-is = sym (ap (λ (n : ℕ). isRecord n (bodyAt s k)) one) ∙ is
 
-    pub worker-low : 1 ≤ wordAt s (k + 1)
-    worker-low = let both = and-true (leb 1 (creditOf (bodyAt s k) .worker)) (leb (creditOf (bodyAt s k) .worker) workers) worker-is in
-        omega (arith, worker-at s k, leb-true 1 (creditOf (bodyAt s k) .worker) (both .0))
-
-    pub worker-high : wordAt s (k + 1) ≤ workers
-    worker-high = let both = and-true (leb 1 (creditOf (bodyAt s k) .worker)) (leb (creditOf (bodyAt s k) .worker) workers) worker-is in
-        omega (arith, worker-at s k, leb-true (creditOf (bodyAt s k) .worker) workers (both .1))
+    pub worker-in : (1 ≤ wordAt s (k + 1)) × (wordAt s (k + 1) ≤ workers)
+    worker-in = let range = worker-range (creditOf (bodyAt s k) .worker) worker-is in (omega (arith, worker-at s k), omega (arith, worker-at s k))
 
     front : (cs : Option (List Credit)) → inFront (byte s k) (bodyAt s k) cs ≡ andThen (creditOf (bodyAt s k)) cs
     front cs = simp (one, worker-is)
@@ -241,8 +243,7 @@ module _ (s : List ℕ) (k : ℕ) (was : List ℕ) (running : Running was) where
         let same : _≡_ {A = Credit} (record { worker = w; pieces = p }) c =
         ap₂ (λ (w p : ℕ). record { worker = w; pieces = p }) (v ∙ worker-at s k) (q ∙ pieces-at s k) in
         let does : Credits c was sums r = subst (λ (c : Credit). Credits c was sums r) same did in
-        let low : 1 ≤ c .worker = omega (arith, worker-at s k, worker-low) in
-        let high : c .worker ≤ workers = omega (arith, worker-at s k, worker-high) in
+        let range = worker-range (c .worker) worker-is in
         record {
           added =
               λ e. (
@@ -252,7 +253,7 @@ module _ (s : List ℕ) (k : ℕ) (was : List ℕ) (running : Running was) where
           over =
               λ e cs.
               ap (λ (o : Option (List Credit)). tallied o was) (front cs) ∙ tallied-then c cs was
-              ∙ tallied-over cs (addCredit c was) (credited-over c was sums r running does low high e);
+              ∙ tallied-over cs (addCredit c was) (credited-over c was sums r running does (range .0) (range .1) e);
         }
 
 -- ---- the sums while a sheet is read
@@ -285,11 +286,6 @@ module _ (s was sums : List ℕ) where
   unfolding number
   done-tally is = record { says = ap number (sym is); added = λ z. is }
 
--- 12 before 13
-pub first-of-both : (cs : Option (List Credit)) → cond (isSome cs) 13 12 ≡ numberOf (tooMany cs)
-first-of-both none = refl
-first-of-both (some cs) = refl
-
 -- ---- the cases of the call
 
 abbrev pub sheetAnswer : ℕ → List ℕ → SheetAnswer
@@ -301,7 +297,7 @@ module _ (ts sheet : List ℕ) where
   other-table h = simp (ne-eqb (length ts) workers h)
 
   module _ (long : length ts ≡ workers) where
-    pub lent-over : within ts ≡ false → (r : ℕ) → r ≡ cond (isSome (creditsOf sheet)) 13 12 → sheetAnswer r ts ≡ afterSheet ts sheet
+    pub lent-over : within ts ≡ false → (r : ℕ) → r ≡ numberOf (tooMany (creditsOf sheet)) → sheetAnswer r ts ≡ afterSheet ts sheet
     unfolding afterSheet addSheet _>>_ _>>=_ refuse_if_ _orRefuse_ number valueOr
     lent-over over r is = by (creditsOf sheet) refl
       where

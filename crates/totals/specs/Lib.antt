@@ -1,6 +1,6 @@
 pub mod Totals
 pub mod Rows
 pub mod Runs
-pub mod RunLaws
 pub mod Meaning
 pub mod Laws
+pub mod RunLaws

@@ -6,15 +6,16 @@ use native.Mathlib.Omega.{arith}
 use mathlib.Core.Bool.{Bool, true, false, _&&_, cond}
 use mathlib.Core.Option.{Option, none, some, Option·getD}
 use mathlib.Core.List.{List, [], _∷_, _++_, map}
-use lib.ListN.{length, getD, set, length-set}
+use lib.ListN.{length, getD, set}
 use lib.Seq.{getD-set-same, getD-set-other, ext-getD}
-use lib.Dec.{eqb, leb}
-use borrow.Author.Tests.{leb-true, eqb-true, eqb-false}
+use lib.Dec.{eqb}
+use borrow.Author.Tests.{eqb-true, eqb-false}
 use Rattle.format.specs.Lists.{consIf, filter, joined, sum}
-use Rattle.format.specs.ListLaws.{and-true, All, done, _also_, filter-join}
+use Rattle.format.specs.ListLaws.{All, done, _also_, filter-join}
 use Rattle.format.specs.Permutations.{Perm, as-is, skip, swap, next}
 use Rattle.format.specs.Refusals.{_>>=_, _>>_, refuse_if_, _orRefuse_, number, valueOr}
 use Rattle.totals.specs.Totals.{Credit, workers, creditOf, isWorker, andThen, inFront, creditsOf, within, addCredit, addCredits, addSheet, afterSheet}
+use Rattle.totals.specs.Laws.{worker-range, credit-long}
 use Rattle.totals.specs.Runs.{handedOn, accepted, listed, creditsIn, piecesOf, Growth, GrowthOfEach, OrdersEndEqual}
 
 -- ---- a sheet's workers have totals
@@ -46,11 +47,6 @@ all-known (k ∷ a ∷ b ∷ []) = done
 all-known (k ∷ a ∷ b ∷ c ∷ []) = done
 all-known (k ∷ a ∷ b ∷ c ∷ d ∷ rest) = front-known k (a ∷ b ∷ c ∷ d ∷ []) (creditsOf rest) (all-known rest)
 
-known-range : (c : Credit) → Known c → (1 ≤ c .worker) × (c .worker ≤ workers)
-known-range c h =
-    let both = and-true (leb 1 (c .worker)) (leb (c .worker) workers) h in
-    (leb-true 1 (c .worker) (both .0), leb-true (c .worker) workers (both .1))
-
 -- ---- what one call did
 
 data Did (ts s : List ℕ) : Type 0 where
@@ -71,10 +67,6 @@ did ts s = by (eqb (length ts) workers) refl (creditsOf s) refl
     by true l (some cs) e = last cs l e (within ts && within (addCredits cs ts)) refl
 
 -- ---- one record
-
-credit-long : (c : Credit) (ts : List ℕ) → length (addCredit c ts) ≡ length ts
-unfolding addCredit
-credit-long c ts = length-set ts (c .worker - 1) (getD ts (c .worker - 1) 0 + c .pieces)
 
 credits-long : (cs : List Credit) (ts : List ℕ) → length (addCredits cs ts) ≡ length ts
 unfolding addCredits
@@ -152,7 +144,7 @@ growth ts ss =
     run-grows (λ c. true) sum each ts ss ∙ ap (λ (cs : List Credit). sum ts + piecesOf cs) (filter-all-of (creditsIn (accepted ts ss)))
   where
     each : (c : Credit) (ts : List ℕ) → length ts ≡ workers → Known c → sum (addCredit c ts) ≡ sum ts + (c .pieces + 0)
-    each c ts long k = sum-credit c ts long (known-range c k) ∙ omega arith
+    each c ts long k = sum-credit c ts long (worker-range (c .worker) k) ∙ omega arith
 
 -- ---- each worker's total
 
@@ -169,11 +161,11 @@ at-credit w is c ts long k = by (eqb (c .worker) w) refl
 
     by : (b : Bool) → eqb (c .worker) w ≡ b → getD (addCredit c ts) (w - 1) 0 ≡ getD ts (w - 1) 0 + among (isOf w) (c ∷ [])
     by true q =
-        let range = known-range c k in
+        let range = worker-range (c .worker) k in
         rw q (subst (λ (w : ℕ). getD (addCredit c ts) (w - 1) 0 ≡ getD ts (w - 1) 0 + (c .pieces + 0)) (eqb-true (c .worker) w q)
         (getD-set-same ts (c .worker - 1) v 0 (omega arith) ∙ omega arith))
     by false q =
-        let range = known-range c k in
+        let range = worker-range (c .worker) k in
         let n : c .worker ≡ w → ⊥ = eqb-false (c .worker) w q in
         rw q (getD-set-other ts (c .worker - 1) (w - 1) v 0 (λ e. n (omega arith)) ∙ omega arith)
 

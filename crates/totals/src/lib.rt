@@ -7,8 +7,9 @@ ghost use mathlib.Core.List.{[]};
 ghost use lib.ListN.{length, drop};
 ghost use Rattle.format.specs.Lists.{byte, wordAt};
 ghost use Rattle.format.specs.Effects.{isSome};
+ghost use Rattle.format.specs.Refusals.{numberOf};
 ghost use Rattle.totals.specs.Totals.{creditsOf, within, workers, afterSheet};
-ghost use Rattle.totals.specs.Meaning.{bodyAt, isRecord, Running, Credits, Adds, Tallies};
+ghost use Rattle.totals.specs.Meaning.{bodyAt, isRecord, Running, Credits, tooMany, Adds, Tallies};
 
 const WORKERS: usize = 500;
 
@@ -70,7 +71,7 @@ fn is_rest(sheet: &[u8], k: usize) -> bool
 // The refusal where a total is too large: a bad sheet comes before that, be it bad from place k on.
 fn refusal_from(sheet: &[u8], k: usize) -> u32
     requires { ⌜ k ≤ length (now sheet) ⌝ }
-    ensures { λ r. ⌜ r ≡ cond (isSome (creditsOf (drop k (now (sheet .entry))))) 13 12 ⌝ }
+    ensures { λ r. ⌜ r ≡ numberOf (tooMany (creditsOf (drop k (now (sheet .entry))))) ⌝ }
 {
     if is_rest(sheet, k) {
         return refusals::TOTAL;

@@ -1,6 +1,6 @@
 -- `totals::add_record` meets its contract.
 -- Assumes nothing.
-use Rattle.totals.specs.Laws.{date-adds, worker-low, worker-high, credit-adds}
+use Rattle.totals.specs.Laws.{date-adds, worker-in, credit-adds}
 use native.Mathlib.Omega.{arith}
 use borrow.Author.Needs.{needs}
 use Rattle.totals.proofs.add_record.Statement.{statement}
@@ -38,12 +38,9 @@ credit-requires c κs =
     let worker = at-worker c in
     let other = no-date worker in
     let start = at-start (other .before) in
-    let s = start .args .sheet .now in
-    let w = worker .word-at .ensures in (
-      start .pre .0,
-      omega (arith, w, worker-low s (start .args .k) (start .args .sums .now) (start .pre .0) (start .pre .2) (other .if1 .left)),
-      omega (arith, w, worker-high s (start .args .k) (start .args .sums .now) (start .pre .0) (start .pre .2) (other .if1 .left)),
-    )
+    let w = worker .word-at .ensures in
+    let range = worker-in (start .args .sheet .now) (start .args .k) (start .args .sums .now) (start .pre .0) (start .pre .2) (other .if1 .left) in
+    (start .pre .0, omega (arith, w, range .0), omega (arith, w, range .1))
 
 same-length : tie.Need-same-length
 same-length c = search needs

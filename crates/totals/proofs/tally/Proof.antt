@@ -1,6 +1,6 @@
 -- `totals::tally` meets its contract.
 -- Assumes nothing.
-use Rattle.totals.specs.Laws.{record-bad, tally-on, tally-over, tally-bad, tally-end, refused-tally, done-tally, first-of-both}
+use Rattle.totals.specs.Laws.{record-bad, tally-on, tally-over, tally-bad, tally-end, refused-tally, done-tally}
 use Rattle.totals.specs.Meaning.{Running, tallied, tooMany}
 use Rattle.totals.specs.Totals.{creditsOf}
 use Rattle.format.specs.Refusals.{BAD-SHEET}
@@ -80,7 +80,7 @@ returns-2 c =
     let rest = creditsOf (drop (l .k + 5) s) in
     let over = tally-over s (l .k) (l .sums) (one .add-record .last .0) (omega arith) (one .add-record .result) (one .add-record .ensures) in
     refused-tally s (a .sums .now) (one .add-record .last .0) (tooMany rest) (c .refusal-from .result)
-    (sym (l .inv .2) ∙ over (not-true _ (c .before .if2 .taken))) (c .refusal-from .ensures ∙ first-of-both rest)
+    (sym (l .inv .2) ∙ over (not-true _ (c .before .if2 .taken))) (c .refusal-from .ensures)
 
 add-k : tie.Need-add-k Inv-loop μ-loop
 add-k c = search needs
