@@ -42,7 +42,8 @@ static const struct refusal refusals[] = {
         "or read it with the program that wrote it." },
     [TANDOS_SHORT] = { "SHORT",
         "The buffer cannot hold the answer: lend a longer one; "
-        "65,536 bytes are enough for any file, 9,752 for any list." },
+        "65,536 bytes are enough for any file, 9,752 for any list of a disc, "
+        "68,118 for any list of writes." },
     [TANDOS_NO_SECTOR] = { "NO SECTOR",
         "There is no such sector on the disc: give a track from 0 to the last "
         "one and a sector from 1 to the last of a track." },
@@ -52,7 +53,11 @@ static const struct refusal refusals[] = {
         "last byte, and a table of 500 totals." },
     [TANDOS_TOTAL] = { "TOTAL",
         "A worker's total is, or would become, more than 1,000,000,000: "
-        "begin new totals from zero, or correct the one that is too large." }
+        "begin new totals from zero, or correct the one that is too large." },
+    [TANDOS_BAD_LIST] = { "BAD LIST",
+        "The bytes are not a list of writes to sectors of this disc: give one "
+        "whole list, as save, delete, rename or protect gave it, and the disc "
+        "that it is for." }
 };
 
 static const char *const rules[] = {

@@ -7,7 +7,6 @@
 #include "bytes.h"
 #include "lock.h"
 #include "message.h"
-#include "replace.h"
 
 static enum status read_image(struct image *image, int file)
 {
@@ -50,13 +49,6 @@ enum status load_image_for_change(struct image *image, const char *path,
     if (file < 0)
         return say_failed(path, "cannot open for change");
     return read_image(image, file);
-}
-
-enum status store_image(const struct image *image, uint32_t number)
-{
-    if (number != TANDOS_DONE)
-        return say_image_refused(image, number);
-    return replace_file(image->path, image->bytes, image->length, true);
 }
 
 unsigned track_count(const struct image *image)

@@ -34,10 +34,6 @@ enum status load_image(struct image *image, const char *path, enum kind kind);
 enum status load_image_for_change(struct image *image, const char *path,
                                   enum kind kind, const char *command);
 
-/* Replaces the image's file if `number` is TANDOS_DONE; otherwise says what
- * was refused and writes nothing. */
-enum status store_image(const struct image *image, uint32_t number);
-
 /* The image is of a right size. */
 unsigned track_count(const struct image *image);
 

@@ -96,7 +96,7 @@ static enum status run(const struct arguments *arguments)
     static uint8_t records[TANDOS_LIST_MAX];
     const uint8_t *files = records + TANDOS_DISC_RECORD_SIZE;
     struct disc_record disc;
-    tandos_listed listed;
+    tandos_filled listed;
 
     if (arguments->option[TABLE] && arguments->option[JSON])
         return say_misuse(arguments->command, "--table and --json exclude "

@@ -8,9 +8,9 @@
 
 static const struct command *const commands[] = {
     &blank_command,  &list_command,   &read_command,    &save_command,
-    &delete_command, &rename_command, &protect_command, &check_command,
-    &view_command,   &map_command,    &rearrange_command,
-    &totals_command
+    &delete_command, &rename_command, &protect_command, &replay_command,
+    &writes_command, &check_command,  &view_command,    &map_command,
+    &rearrange_command, &totals_command
 };
 
 #define COMMANDS (sizeof commands / sizeof commands[0])
@@ -19,7 +19,7 @@ static void print_help(void)
 {
     size_t i;
 
-    puts("Usage: tandos COMMAND [OPTION..] IMAGE [ARGUMENT..]\n\n"
+    puts("Usage: tandos COMMAND [OPTION..] ARGUMENT..\n\n"
          "Works on the files of a TANDOS 65 disc image.\n\n"
          "Commands:");
     for (i = 0; i < COMMANDS; i++)

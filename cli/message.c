@@ -29,6 +29,15 @@ enum status say_file_refused(const char *path, const char *name,
     return STATUS_REFUSED;
 }
 
+enum status say_list_refused(const char *path, const char *fault,
+                             const char *advice)
+{
+    fprintf(stderr, "tandos: %s: refused with %u, %s. The file is no list of "
+            "writes (%s): %s.\n", input_name(path), (unsigned)TANDOS_BAD_LIST,
+            tandos_refusal_name(TANDOS_BAD_LIST), fault, advice);
+    return STATUS_REFUSED;
+}
+
 enum status say_no_match(const char *command, const char *pattern)
 {
     fprintf(stderr, "tandos %s: no file of the images matches '%s': list them "

@@ -20,6 +20,11 @@ enum status say_file_refused(const char *path, const char *name,
                              uint32_t number, const char *what,
                              const char *hint);
 
+/* A list of writes is none, or none for the disc: what is wrong, and what to
+ * do. */
+enum status say_list_refused(const char *path, const char *fault,
+                             const char *advice);
+
 /* No file of the images has a name as the pattern typed. */
 enum status say_no_match(const char *command, const char *pattern);
 

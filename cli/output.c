@@ -43,3 +43,12 @@ enum status write_output(const char *path, const struct image *image,
         return write_special(path, bytes, length);
     return replace_file(path, bytes, length, true);
 }
+
+bool is_same_file(const char *path, const char *other)
+{
+    struct stat file, other_file;
+
+    return strcmp(path, "-") != 0 && strcmp(other, "-") != 0 &&
+           stat(path, &file) == 0 && stat(other, &other_file) == 0 &&
+           file.st_dev == other_file.st_dev && file.st_ino == other_file.st_ino;
+}

@@ -49,15 +49,6 @@ static enum status parse(const struct arguments *arguments, enum kind *to)
     return parse_to(arguments, to);
 }
 
-static bool is_same_file(const char *path, const char *other)
-{
-    struct stat file, other_file;
-
-    return strcmp(path, "-") != 0 && strcmp(other, "-") != 0 &&
-           stat(path, &file) == 0 && stat(other, &other_file) == 0 &&
-           file.st_dev == other_file.st_dev && file.st_ino == other_file.st_ino;
-}
-
 /* Not kind_hint: stated as what it is, the disc is not to be rearranged. */
 static const char *already_hint(const struct image *image)
 {

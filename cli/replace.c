@@ -92,24 +92,26 @@ static bool sync_folder(const char *folder)
     return is_done;
 }
 
-static enum status write_beside(const char *path, const char *target,
-                                const char *folder, const uint8_t *bytes,
-                                size_t length, bool may_exist)
+/* Removes the temporary file after an error, which errno tells. */
+static enum status give_up(const char *path, const char *what)
 {
-    int file = create_temporary(folder);
+    int error = errno;
+
+    remove_temporary();
+    errno = error;
+    return say_failed(path, what);
+}
+
+static enum status write_beside(const struct replacement *new_file,
+                                const uint8_t *bytes, size_t length)
+{
+    int file = create_temporary(new_file->folder);
 
     if (file < 0)
-        return say_failed(path, "cannot make a temporary file beside it");
-    if (!fill(file, target, bytes, length) ||
-        !name_temporary(target, may_exist)) {
-        int error = errno;
-
-        remove_temporary();
-        errno = error;
-        return say_failed(path, "cannot write, nothing was changed");
-    }
-    if (!sync_folder(folder))
-        return say_failed(path, "written, but the folder could not be synced");
+        return say_failed(new_file->path,
+                          "cannot make a temporary file beside it");
+    if (!fill(file, new_file->target, bytes, length))
+        return give_up(new_file->path, NOTHING_CHANGED);
     return STATUS_DONE;
 }
 
@@ -121,20 +123,59 @@ static bool is_replaceable(const char *target)
     return stat(target, &file) != 0 || S_ISREG(file.st_mode);
 }
 
+static void forget(struct replacement *new_file)
+{
+    free(new_file->folder);
+    free(new_file->target);
+}
+
+enum status prepare_file(struct replacement *new_file, const char *path,
+                         const uint8_t *bytes, size_t length)
+{
+    enum status status;
+
+    new_file->path = path;
+    new_file->target = real_path(path);
+    new_file->folder =
+        new_file->target != NULL ? folder_of(new_file->target) : NULL;
+    if (new_file->folder == NULL)
+        status = say_failed(path, "cannot write");
+    else if (!is_replaceable(new_file->target))
+        status = say_problem(path, "cannot write: not a regular file");
+    else
+        status = write_beside(new_file, bytes, length);
+    if (status != STATUS_DONE)
+        forget(new_file);
+    return status;
+}
+
+enum status finish_file(struct replacement *new_file, bool may_exist,
+                        const char *otherwise)
+{
+    enum status status = STATUS_DONE;
+
+    if (!name_temporary(new_file->target, may_exist))
+        status = give_up(new_file->path, otherwise);
+    else if (!sync_folder(new_file->folder))
+        status = say_failed(new_file->path,
+                            "written, but the folder could not be synced");
+    forget(new_file);
+    return status;
+}
+
+void drop_file(struct replacement *new_file)
+{
+    remove_temporary();
+    forget(new_file);
+}
+
 enum status replace_file(const char *path, const uint8_t *bytes, size_t length,
                          bool may_exist)
 {
-    char *target = real_path(path);
-    char *folder = target != NULL ? folder_of(target) : NULL;
-    enum status status;
+    struct replacement new_file;
+    enum status status = prepare_file(&new_file, path, bytes, length);
 
-    if (folder == NULL)
-        status = say_failed(path, "cannot write");
-    else if (!is_replaceable(target))
-        status = say_problem(path, "cannot write: not a regular file");
-    else
-        status = write_beside(path, target, folder, bytes, length, may_exist);
-    free(folder);
-    free(target);
-    return status;
+    if (status != STATUS_DONE)
+        return status;
+    return finish_file(&new_file, may_exist, NOTHING_CHANGED);
 }

@@ -8,6 +8,9 @@
 
 #include "status.h"
 
+/* What is said of a file that could not be written. */
+#define NOTHING_CHANGED "cannot write, nothing was changed"
+
 /*
  * Makes a file hold these bytes. They go to a temporary file in the same
  * folder, which then takes the file's name in one step: whenever the process
@@ -17,5 +20,22 @@
  */
 enum status replace_file(const char *path, const uint8_t *bytes, size_t length,
                          bool may_exist);
+
+/* The same in two steps. A prepared file is finished or dropped, the one that
+ * was prepared last before those prepared earlier. */
+struct replacement {
+    const char *path;      /* as typed */
+    char *target, *folder; /* behind symbolic links */
+};
+
+/* The bytes are on the disc, in the temporary file. */
+enum status prepare_file(struct replacement *new_file, const char *path,
+                         const uint8_t *bytes, size_t length);
+
+/* The temporary file takes the name; `otherwise` is said where it cannot. */
+enum status finish_file(struct replacement *new_file, bool may_exist,
+                        const char *otherwise);
+
+void drop_file(struct replacement *new_file);
 
 #endif

@@ -72,7 +72,7 @@ static enum status read_files(struct sheets *sheets, const struct image *image,
 {
     static uint8_t records[TANDOS_LIST_MAX];
     const uint8_t *record = records + TANDOS_DISC_RECORD_SIZE;
-    tandos_listed listed =
+    tandos_filled listed =
         tandos_list(TANDOS_ON(*image), records, sizeof records);
 
     if (listed.number != TANDOS_DONE)

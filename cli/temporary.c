@@ -8,19 +8,26 @@
 #include <sys/stat.h>
 #include <unistd.h>
 
-static const int ending_signals[] = { SIGHUP, SIGINT, SIGQUIT, SIGTERM,
-                                      SIGXCPU, SIGXFSZ };
+static const int ending_signals[] = { SIGHUP,  SIGINT,  SIGQUIT, SIGPIPE,
+                                      SIGTERM, SIGXCPU, SIGXFSZ };
 
 #define ENDING_SIGNALS (sizeof ending_signals / sizeof ending_signals[0])
 
-/* The path of the file while it stands. Changed only with the ending signals
- * blocked, so that the handler sees it exactly while the file stands. */
-static char *volatile temporary;
+struct temporary {
+    struct temporary *older;
+    char path[];
+};
+
+/* The files that stand. Changed only with the ending signals blocked, so that
+ * the handler sees exactly those. */
+static struct temporary *volatile newest;
 
 static void remove_and_end(int signal_number)
 {
-    if (temporary != NULL)
-        unlink(temporary);
+    const struct temporary *file;
+
+    for (file = newest; file != NULL; file = file->older)
+        unlink(file->path);
     /* The signal is blocked here; it ends the process on return. */
     signal(signal_number, SIG_DFL);
     raise(signal_number);
@@ -60,29 +67,42 @@ static void catch_signals(void)
             sigaction(ending_signals[i], &action, NULL);
 }
 
-static void forget_temporary(void)
+static void forget_newest(void)
 {
-    free(temporary);
-    temporary = NULL;
+    struct temporary *file = newest;
+
+    newest = file->older;
+    free(file);
+}
+
+/* Answers the open file, as create_temporary does. */
+static int make_in(const char *folder)
+{
+    static const char pattern[] = ".tandos-XXXXXX";
+    size_t size = strlen(folder) + sizeof pattern;
+    struct temporary *made = malloc(sizeof *made + size);
+    int file;
+
+    if (made == NULL)
+        return -1;
+    snprintf(made->path, size, "%s%s", folder, pattern);
+    file = mkstemp(made->path);
+    made->older = newest;
+    newest = made;
+    if (file < 0)
+        forget_newest();
+    return file;
 }
 
 int create_temporary(const char *folder)
 {
-    static const char pattern[] = ".tandos-XXXXXX";
-    size_t size = strlen(folder) + sizeof pattern;
     sigset_t old;
-    int file = -1;
+    int file;
 
     block(&old);
-    temporary = malloc(size);
-    if (temporary != NULL) {
-        snprintf(temporary, size, "%s%s", folder, pattern);
-        file = mkstemp(temporary);
-        if (file < 0)
-            forget_temporary();
-        else
-            catch_signals();
-    }
+    file = make_in(folder);
+    if (file >= 0)
+        catch_signals();
     unblock(&old);
     return file;
 }
@@ -93,15 +113,15 @@ static bool give_new_name(const char *target)
 {
     struct stat old;
 
-    if (link(temporary, target) == 0)
-        return unlink(temporary) == 0;
+    if (link(newest->path, target) == 0)
+        return unlink(newest->path) == 0;
     if (errno != EPERM && errno != EOPNOTSUPP && errno != ENOSYS)
         return false;
     if (lstat(target, &old) == 0) {
         errno = EEXIST;
         return false;
     }
-    return rename(temporary, target) == 0;
+    return rename(newest->path, target) == 0;
 }
 
 bool name_temporary(const char *target, bool may_exist)
@@ -110,10 +130,10 @@ bool name_temporary(const char *target, bool may_exist)
     bool is_named;
 
     block(&old);
-    is_named = may_exist ? rename(temporary, target) == 0
+    is_named = may_exist ? rename(newest->path, target) == 0
                          : give_new_name(target);
     if (is_named)
-        forget_temporary();
+        forget_newest();
     unblock(&old);
     return is_named;
 }
@@ -123,7 +143,7 @@ void remove_temporary(void)
     sigset_t old;
 
     block(&old);
-    unlink(temporary);
-    forget_temporary();
+    unlink(newest->path);
+    forget_newest();
     unblock(&old);
 }

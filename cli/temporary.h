@@ -1,5 +1,5 @@
-/* The one temporary file of the process. A signal that ends the process
- * removes it first. */
+/* The temporary files of the process. A signal that ends the process removes
+ * them first. Whatever is named or removed is the newest that stands. */
 #ifndef TEMPORARY_H
 #define TEMPORARY_H
 
@@ -9,7 +9,7 @@
  * -1 with errno. */
 int create_temporary(const char *folder);
 
-/* Gives the temporary file its name, in one step. False with errno. */
+/* Gives the newest its name, in one step. False with errno. */
 bool name_temporary(const char *target, bool may_exist);
 
 void remove_temporary(void);

@@ -1,7 +1,7 @@
 /*
- * The main job on a disc: make a blank one, save a sheet on it, list it, read
- * the sheet back, check the disc. Every step says what happened; a refused one
- * says why and what to do.
+ * The main job on a disc: make a blank one, save a sheet on it, write the same
+ * sectors to a copy, list the disc, read the sheet back, check the disc. Every
+ * step says what happened; a refused one says why and what to do.
  */
 #include <stdio.h>
 #include <stdlib.h>
@@ -18,6 +18,15 @@ static const tandos_image disc = {
     bytes, sizeof bytes, TANDOS_TEN, TANDOS_PLAIN
 };
 static const char name[] = "THU.PCS";
+
+/* A copy of the disc as it was before the save. */
+static uint8_t copied[sizeof bytes];
+static const tandos_image copy = {
+    copied, sizeof copied, TANDOS_TEN, TANDOS_PLAIN
+};
+
+/* The sectors that the save wrote. */
+static uint8_t writes[TANDOS_SAVE_WRITES_MAX];
 
 static void say_refused(const char *step, uint32_t number)
 {
@@ -47,16 +56,51 @@ static void make_disc(void)
     printf("Made a blank disc of %d tracks, named %s.\n", TRACKS, disc_name);
 }
 
-static uint32_t save_sheet(const uint8_t *sheet)
+static tandos_filled save_sheet(const uint8_t *sheet)
 {
     return tandos_save(TANDOS_ON(disc), TANDOS_TEXT(name), 0, 0x2000, 0x2000,
-                       sheet, SHEET_LENGTH);
+                       sheet, SHEET_LENGTH, writes, sizeof writes);
+}
+
+/* A card reader would write each of these sectors to the card. */
+static void print_writes(void)
+{
+    const uint8_t *record = writes;
+
+    printf("The sectors written, in order:");
+    for (; *record == TANDOS_WRITE; record += TANDOS_WRITE_RECORD_SIZE)
+        printf(" %d/%d", record[1], record[2]);
+    printf(".\n");
+}
+
+/* On the disc as it was, the list gives the disc as it is. */
+static void replay_on_copy(size_t length)
+{
+    stop_if_refused("Replaying the list on the copy",
+                    tandos_replay(TANDOS_ON(copy), writes, length));
+    if (memcmp(copied, bytes, sizeof bytes) != 0) {
+        printf("The copy is NOT the same as the disc.\n");
+        exit(EXIT_FAILURE);
+    }
+    printf("Replayed the list on the old copy: it is the same as the disc.\n");
+}
+
+static void save_and_replay(const uint8_t *sheet)
+{
+    tandos_filled saved;
+
+    memcpy(copied, bytes, sizeof bytes);
+    saved = save_sheet(sheet);
+    stop_if_refused("Saving the sheet", saved.number);
+    printf("Saved the sheet %s of %d bytes.\n", name, SHEET_LENGTH);
+    print_writes();
+    replay_on_copy(saved.length);
 }
 
 /* A name that stands already: refused, and the disc stays as it was. */
 static void save_again(const uint8_t *sheet)
 {
-    uint32_t number = save_sheet(sheet);
+    uint32_t number = save_sheet(sheet).number;
 
     if (number == TANDOS_DONE) {
         printf("Saving the same name again was NOT refused.\n");
@@ -90,7 +134,7 @@ static void list_disc(void)
 {
     static uint8_t records[TANDOS_LIST_MAX];
     const uint8_t *record = records + TANDOS_DISC_RECORD_SIZE;
-    tandos_listed listed =
+    tandos_filled listed =
         tandos_list(TANDOS_ON(disc), records, sizeof records);
 
     stop_if_refused("Listing the disc", listed.number);
@@ -140,8 +184,7 @@ int main(void)
     for (i = 0; i < SHEET_LENGTH; i++)
         sheet[i] = (uint8_t)(i % 100);
     make_disc();
-    stop_if_refused("Saving the sheet", save_sheet(sheet));
-    printf("Saved the sheet %s of %d bytes.\n", name, SHEET_LENGTH);
+    save_and_replay(sheet);
     list_disc();
     read_sheet(sheet);
     check_disc();

@@ -110,7 +110,7 @@ static bool list_image(void)
 {
     static uint8_t records[TANDOS_LIST_MAX];
     const uint8_t *record = records + TANDOS_DISC_RECORD_SIZE;
-    tandos_listed listed =
+    tandos_filled listed =
         tandos_list(TANDOS_ON(disc), records, sizeof records);
 
     if (!is_done("The list", listed.number))
@@ -124,15 +124,20 @@ static bool list_image(void)
     return true;
 }
 
+/* The lists of writes are not used: the image is written whole. */
 static bool change_image(const struct task *task)
 {
-    if (!is_done("Saving the correction",
-                 tandos_save(TANDOS_ON(disc), TANDOS_TEXT(task->correction), 0,
-                             0x2000, 0x2000, task->sheet, task->sheet_length)))
+    static uint8_t writes[TANDOS_SAVE_WRITES_MAX];
+    tandos_filled filled =
+        tandos_save(TANDOS_ON(disc), TANDOS_TEXT(task->correction), 0, 0x2000,
+                    0x2000, task->sheet, task->sheet_length, writes,
+                    sizeof writes);
+
+    if (!is_done("Saving the correction", filled.number))
         return false;
-    return is_done("Deleting last week's sheet",
-                   tandos_delete(TANDOS_ON(disc),
-                                 TANDOS_TEXT(task->last_week)));
+    filled = tandos_delete(TANDOS_ON(disc), TANDOS_TEXT(task->last_week),
+                           writes, sizeof writes);
+    return is_done("Deleting last week's sheet", filled.number);
 }
 
 static bool visit(const char *path, const struct task *task)

@@ -2,8 +2,9 @@
  * tandos.h: TANDOS 65 disc images, for C99 and C++.
  *
  * The library lists, reads, saves, deletes, renames and protects the files of
- * a disc image, checks it, makes a blank disc and shows a sector, and adds up
- * the pieces of each worker from the sheets. The calls of the first part are
+ * a disc image, checks it, makes a blank disc and shows a sector, gives the
+ * sectors that a command wrote and writes them to a copy of the disc, and adds
+ * up the pieces of each worker from the sheets. The calls of the first part are
  * written in Rattle and proved: for any bytes handed in, each ends, stays
  * inside the memory lent to it, and answers and leaves exactly what is said
  * below. The few functions of the second part are written in C, tested, not
@@ -45,10 +46,10 @@
  * and changed in place; calls keep no state, so different images may be used
  * from different threads at once.
  *
- *  - Nothing that a call may write (the image of save, delete, rename, protect
- *    and blank; the buffer of list and read; the totals of add_sheet) may
- *    overlap anything else lent to that call. The caller must see to that: no
- *    call can test it.
+ *  - Nothing that a call may write (the image of save, delete, rename, protect,
+ *    replay and blank; the writes of the first four; the buffer of list and
+ *    read; the totals of add_sheet) may overlap anything else lent to that
+ *    call. The caller must see to that: no call can test it.
  *  - Each pointer is followed by the number of bytes lent there, or of totals.
  *    A pointer may be NULL only where that number is 0.
  *
@@ -78,6 +79,35 @@
  *    TANDOS_SHEET_END     no body; the last byte of the sheet
  *
  * Only tandos_add_sheet looks at them: any bytes can be saved and read.
+ *
+ * WRITES. Save, delete, rename and protect change the image, and give besides
+ * the list of the sectors that they wrote, in order, at the front of a buffer
+ * that the caller lends. The rest of the buffer stays. A list is a row of
+ * records, each one byte of kind and a body:
+ *
+ *    TANDOS_WRITE         track, sector, the 256 bytes that stand there now
+ *    TANDOS_WRITES_END    no body; the last byte of the list
+ *
+ *    save      0/1; the file's sectors in the order of its chain; then the
+ *              directory sector with the new entry or, where the directory
+ *              grows, the new directory sector and then the one that links to
+ *              it
+ *    delete    the directory sector that had the entry, the file's last
+ *              sector, 0/1
+ *    rename,   the directory sector with the entry, also where no byte of it
+ *    protect   changes
+ *
+ * A card reader that takes whole sectors writes each record's bytes to its
+ * track and sector, in the order of the list:
+ *
+ *    for (w = writes; *w == TANDOS_WRITE; w += TANDOS_WRITE_RECORD_SIZE)
+ *        put_sector(w[1], w[2], w + 3);
+ *
+ * Track and sector are the same in both arrangements, and so is the list.
+ * tandos_replay writes a list to another copy of the image: on the image as it
+ * was before the command it leaves exactly what the command left. A buffer
+ * that can't hold the list is refused with TANDOS_SHORT, the last refusal of
+ * each; then the command is not done.
  */
 #ifndef TANDOS_H
 #define TANDOS_H
@@ -145,6 +175,25 @@ extern "C" {
  * SHORT. */
 #define TANDOS_LIST_MAX TANDOS_LIST_SIZE(TANDOS_MAX_FILES)
 
+/* A record of a list of writes: kind, track, sector, the sector's bytes. Its
+ * end is one byte. */
+#define TANDOS_WRITE_RECORD_SIZE 259
+
+/* The length of a list of so many writes. */
+#define TANDOS_WRITES_SIZE(records) \
+    ((size_t)(records) * TANDOS_WRITE_RECORD_SIZE + 1)
+
+/*
+ * The longest list of a save (68,118): a file of 260 sectors, the system sector
+ * and two of the directory. With a buffer of this size save, delete, rename and
+ * protect never give SHORT.
+ */
+#define TANDOS_SAVE_WRITES_MAX TANDOS_WRITES_SIZE(263)
+
+/* The list of a delete (778), and of a rename or protect (260). */
+#define TANDOS_DELETE_WRITES_SIZE TANDOS_WRITES_SIZE(3)
+#define TANDOS_ENTRY_WRITES_SIZE TANDOS_WRITES_SIZE(1)
+
 /* ---- Numbers ---- */
 
 /* What a call answers: 0, or the number of a refusal. */
@@ -165,8 +214,10 @@ enum tandos_refusal {
     TANDOS_NO_SECTOR = 11, /* view of a sector not on the disc */
     TANDOS_BAD_SHEET = 12, /* the bytes are no sheet of records, or the table
                               is not one of 500 totals */
-    TANDOS_TOTAL = 13      /* a total is, or would become, more than
+    TANDOS_TOTAL = 13,     /* a total is, or would become, more than
                               1,000,000,000 */
+    TANDOS_BAD_LIST = 14   /* the bytes are no list of writes to sectors on
+                              the disc */
 };
 
 /* The number of sectors of each track. */
@@ -195,6 +246,12 @@ enum tandos_sheet_record {
     TANDOS_SHEET_DATE = 2
 };
 
+/* The first byte of each record of a list of writes. */
+enum tandos_write_record {
+    TANDOS_WRITES_END = 0,
+    TANDOS_WRITE = 3
+};
+
 /* The last byte of a file's record in a list. */
 enum tandos_attribute {
     TANDOS_ATTRIBUTE_NONE = 0x00,
@@ -208,7 +265,8 @@ enum tandos_attribute {
  * writes them out, of this struct or of any other with the same members, and
  * TANDOS_TEXT the bytes of a string and their number:
  *
- *    tandos_delete(TANDOS_ON(disc), TANDOS_TEXT("THU.PCS"))
+ *    tandos_delete(TANDOS_ON(disc), TANDOS_TEXT("THU.PCS"),
+ *                  writes, sizeof writes)
  *
  * Both name their argument more than once.
  */
@@ -233,7 +291,7 @@ typedef struct {
 typedef struct {
     uint32_t number; /* TANDOS_DONE or a refusal */
     uint32_t length; /* of the records at the front of the buffer */
-} tandos_listed;
+} tandos_filled;
 
 typedef struct {
     uint32_t number;   /* TANDOS_DONE or a refusal */
@@ -297,7 +355,7 @@ tandos_checked tandos_check(const uint8_t *image, size_t image_len,
  *   TANDOS_UNSOUND   the check finds a broken rule.
  *   TANDOS_SHORT     buffer_len is less than the length of the records.
  */
-tandos_listed tandos_list(const uint8_t *image, size_t image_len,
+tandos_filled tandos_list(const uint8_t *image, size_t image_len,
                           uint32_t sectors, uint32_t arrangement,
                           uint8_t *buffer, size_t buffer_len);
 
@@ -323,7 +381,9 @@ tandos_reading tandos_read(const uint8_t *image, size_t image_len,
  * the free chain, in order, as many as the load module takes, and one more
  * after those for the directory if no slot is free there. The entry goes to
  * the first free slot in directory order. Free pointer and both counts follow.
- * Refusals:
+ * Gives the list of writes at the front of `writes`, and its length: of as many
+ * records as sectors taken, and two more. The rest of `writes` stays.
+ * TANDOS_SAVE_WRITES_MAX bytes are always enough. Refusals:
  *   TANDOS_SIZE      wrong image_len, sectors or arrangement.
  *   TANDOS_NAME      the name is no file name as typed.
  *   TANDOS_MODULE    page is above 7, or sheet_len is 0 or above
@@ -332,53 +392,86 @@ tandos_reading tandos_read(const uint8_t *image, size_t image_len,
  *   TANDOS_TAKEN     a file has this name already.
  *   TANDOS_ROOM      the free chain is shorter than the save needs, the
  *                    directory's sector counted.
+ *   TANDOS_SHORT     writes_len is less than the length of the list.
  */
-uint32_t tandos_save(uint8_t *image, size_t image_len,
-                     uint32_t sectors, uint32_t arrangement,
-                     const uint8_t *name, size_t name_len,
-                     uint32_t page, uint16_t start, uint16_t transfer,
-                     const uint8_t *sheet, size_t sheet_len);
+tandos_filled tandos_save(uint8_t *image, size_t image_len,
+                          uint32_t sectors, uint32_t arrangement,
+                          const uint8_t *name, size_t name_len,
+                          uint32_t page, uint16_t start, uint16_t transfer,
+                          const uint8_t *sheet, size_t sheet_len,
+                          uint8_t *writes, size_t writes_len);
 
 /*
  * Deletes a file: clears its slot and puts its sectors, in order, in front of
  * the free chain. Both counts follow. The sectors keep their bytes, but for the
- * last one's link; a directory sector that is emptied stays. Refusals:
+ * last one's link; a directory sector that is emptied stays. Gives the list of
+ * writes at the front of `writes`, and its length, TANDOS_DELETE_WRITES_SIZE.
+ * The rest of `writes` stays. Refusals:
  *   TANDOS_SIZE      wrong image_len, sectors or arrangement.
  *   TANDOS_NAME      the name is no file name as typed.
  *   TANDOS_UNSOUND   the check finds a broken rule.
  *   TANDOS_ABSENT    no file has this name.
  *   TANDOS_PROTECTED the file is protected.
+ *   TANDOS_SHORT     writes_len is less than the length of the list.
  */
-uint32_t tandos_delete(uint8_t *image, size_t image_len,
-                       uint32_t sectors, uint32_t arrangement,
-                       const uint8_t *name, size_t name_len);
+tandos_filled tandos_delete(uint8_t *image, size_t image_len,
+                            uint32_t sectors, uint32_t arrangement,
+                            const uint8_t *name, size_t name_len,
+                            uint8_t *writes, size_t writes_len);
 
 /*
- * Renames a file: changes the nine name bytes of its entry. Refusals:
+ * Renames a file: changes the nine name bytes of its entry. Gives the list of
+ * writes at the front of `writes`, and its length, TANDOS_ENTRY_WRITES_SIZE.
+ * The rest of `writes` stays. Refusals:
  *   TANDOS_SIZE      wrong image_len, sectors or arrangement.
  *   TANDOS_NAME      either name is no file name as typed.
  *   TANDOS_UNSOUND   the check finds a broken rule.
  *   TANDOS_ABSENT    no file has the old name.
  *   TANDOS_PROTECTED the file is protected.
  *   TANDOS_TAKEN     a file has the new name, be it the file itself.
+ *   TANDOS_SHORT     writes_len is less than the length of the list.
  */
-uint32_t tandos_rename(uint8_t *image, size_t image_len,
-                       uint32_t sectors, uint32_t arrangement,
-                       const uint8_t *old_name, size_t old_len,
-                       const uint8_t *new_name, size_t new_len);
+tandos_filled tandos_rename(uint8_t *image, size_t image_len,
+                            uint32_t sectors, uint32_t arrangement,
+                            const uint8_t *old_name, size_t old_len,
+                            const uint8_t *new_name, size_t new_len,
+                            uint8_t *writes, size_t writes_len);
 
 /*
  * Protects a file (on is not 0) or lifts its protection (on is 0): writes $80
  * or $00 to the attribute of its entry. Asking for what already stands is done,
- * with nothing changed. Refusals:
+ * with no byte of the image changed. Gives the list of writes, then too, at the
+ * front of `writes`, and its length, TANDOS_ENTRY_WRITES_SIZE. The rest of
+ * `writes` stays. Refusals:
  *   TANDOS_SIZE      wrong image_len, sectors or arrangement.
  *   TANDOS_NAME      the name is no file name as typed.
  *   TANDOS_UNSOUND   the check finds a broken rule.
  *   TANDOS_ABSENT    no file has this name.
+ *   TANDOS_SHORT     writes_len is less than the length of the list.
  */
-uint32_t tandos_protect(uint8_t *image, size_t image_len,
-                        uint32_t sectors, uint32_t arrangement,
-                        const uint8_t *name, size_t name_len, uint32_t on);
+tandos_filled tandos_protect(uint8_t *image, size_t image_len,
+                             uint32_t sectors, uint32_t arrangement,
+                             const uint8_t *name, size_t name_len, uint32_t on,
+                             uint8_t *writes, size_t writes_len);
+
+/*
+ * Replays a list of writes: puts the bytes of each record in the sector that it
+ * names, one record after the other. Neither image nor list is looked at
+ * further: the image need not be sound, before or after; any sector on the disc
+ * may be written, 0/1 as well; of several writes to one sector the last
+ * remains. A list of an end alone changes nothing. A list from save, delete,
+ * rename or protect, replayed on the image as it was before that command,
+ * leaves exactly the image that the command left. Refusals:
+ *   TANDOS_SIZE      wrong image_len, sectors or arrangement.
+ *   TANDOS_BAD_LIST  the list has a record of another kind, a record that is
+ *                    cut short, a sector whose track isn't below T or whose
+ *                    number isn't 1 to S, no end, or bytes after its first
+ *                    record of the kind TANDOS_WRITES_END. A list of no bytes
+ *                    has no end.
+ */
+uint32_t tandos_replay(uint8_t *image, size_t image_len,
+                       uint32_t sectors, uint32_t arrangement,
+                       const uint8_t *writes, size_t writes_len);
 
 /*
  * Makes the image a blank data disc of this name, whatever it was before: a
@@ -444,7 +537,7 @@ const uint8_t *tandos_view(const uint8_t *image, size_t image_len,
                            uint32_t sectors, uint32_t arrangement,
                            uint32_t track, uint32_t sector);
 
-/* The name of a number that a call answers: "DONE", "SIZE", .. "TOTAL".
+/* The name of a number that a call answers: "DONE", "SIZE", .. "BAD LIST".
  * "?" for any other number. */
 const char *tandos_refusal_name(uint32_t number);
 

@@ -1,6 +1,7 @@
 //! The discs that the calls are timed on.
 
 use compare::kind::Kind;
+use compare::writing::LONGEST_LIST;
 use reference::generate::capacity;
 
 /// Takes 80 sectors.
@@ -8,7 +9,9 @@ const LARGE_BYTES: usize = 20_000;
 const LARGE_SECTORS: usize = 80;
 const SMALL_BYTES: usize = 200;
 /// Enough for the module that is saved and deleted.
-const LEFT_FREE: usize = 10;
+pub const LEFT_FREE: usize = 10;
+/// Enough for a large one.
+pub const LEFT_FREE_FOR_LARGE: usize = 40;
 const SHEET_BYTES: usize = 5000;
 const SHEET_SECTORS: usize = 20;
 
@@ -45,7 +48,7 @@ impl Disc {
     fn save(&mut self, name: String, length: usize) {
         self.file = name.into_bytes();
         let sheet: Vec<u8> = (0..length).map(|at| (at * 7) as u8).collect();
-        let number = reference::save(
+        let saved = reference::save(
             &mut self.image,
             self.kind.sectors(),
             self.kind.arrangement(),
@@ -54,8 +57,9 @@ impl Disc {
             0x2000,
             0x2000,
             &sheet,
+            &mut vec![0; LONGEST_LIST],
         );
-        assert_eq!(number, 0, "the file fits");
+        assert_eq!(saved.number, 0, "the file fits");
     }
 
     /// Files of 20,000 bytes, and before them one that takes what they leave,
@@ -83,10 +87,10 @@ impl Disc {
     }
 }
 
-/// Nearly full, with few files.
-pub fn few_large_files(kind: Kind, tracks: usize) -> Disc {
+/// Full but for so many sectors, with few files.
+pub fn few_large_files(kind: Kind, tracks: usize, left: usize) -> Disc {
     let mut disc = blank(kind, tracks);
-    disc.fill(LEFT_FREE);
+    disc.fill(left);
     disc
 }
 
@@ -125,16 +129,20 @@ mod tests {
     fn nearly_full_discs_keep_room_for_a_save() {
         for kind in Kind::ALL {
             for tracks in [5, 10, 20, 40, 80] {
-                for disc in [
-                    few_large_files(kind, tracks),
-                    few_large_files_and_sheet(kind, tracks),
+                for (disc, left) in [
+                    (few_large_files(kind, tracks, LEFT_FREE), LEFT_FREE),
+                    (
+                        few_large_files(kind, tracks, LEFT_FREE_FOR_LARGE),
+                        LEFT_FREE_FOR_LARGE,
+                    ),
+                    (few_large_files_and_sheet(kind, tracks), LEFT_FREE),
                 ] {
                     assert!(is_sound(&disc));
-                    assert_eq!(disc.free(), LEFT_FREE);
+                    assert_eq!(disc.free(), left);
                     assert_eq!(disc.last_track() as usize, tracks - 1);
                 }
             }
-            assert_eq!(few_large_files(kind, 40).file, b"LARGE3");
+            assert_eq!(few_large_files(kind, 40, LEFT_FREE).file, b"LARGE3");
         }
     }
 

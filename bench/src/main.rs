@@ -47,22 +47,17 @@ fn main() -> ExitCode {
 fn calls() -> Vec<Row> {
     let mut rows = Vec::new();
     for tracks in [40, 80] {
-        for (label, discs) in [
-            (
-                "few large files",
-                Kind::ALL.map(|kind| discs::few_large_files(kind, tracks)),
-            ),
-            (
-                "300 small files",
-                Kind::ALL.map(|kind| discs::small_files(kind, tracks, 300)),
-            ),
-        ] {
-            rows.extend(Operation::ALL.map(|operation| Row {
-                label: format!("{}, {tracks} tracks, {label}", operation.name()),
-                operation,
-                discs: discs.clone(),
-            }));
-        }
+        rows.extend(Operation::ALL.map(|operation| Row {
+            label: format!("{}, {tracks} tracks, few large files", operation.name()),
+            operation,
+            discs:
+                Kind::ALL.map(|kind| discs::few_large_files(kind, tracks, operation.left_free())),
+        }));
+        rows.extend(Operation::ALL.map(|operation| Row {
+            label: format!("{}, {tracks} tracks, 300 small files", operation.name()),
+            operation,
+            discs: Kind::ALL.map(|kind| discs::small_files(kind, tracks, 300)),
+        }));
     }
     rows
 }

@@ -130,6 +130,14 @@ mod tests {
         Operation::ALL.map(done).to_vec()
     }
 
+    /// Short discs with room for every operation.
+    fn discs(kind: Kind) -> [Disc; 2] {
+        [
+            discs::few_large_files(kind, 5, discs::LEFT_FREE_FOR_LARGE),
+            discs::small_files(kind, 40, 300),
+        ]
+    }
+
     #[test]
     fn every_series_comes_after_every_other_and_never_after_itself() {
         let turns: Vec<usize> = (0..SERIES).flat_map(turns).collect();
@@ -147,14 +155,31 @@ mod tests {
     #[test]
     fn every_operation_is_done_on_every_kind_of_disc() {
         for kind in Kind::ALL {
-            let disc = discs::few_large_files(kind, 2);
-            assert!(done_on(&disc).into_iter().all(|done| done));
+            for disc in discs(kind) {
+                assert!(done_on(&disc).into_iter().all(|done| done));
+            }
+        }
+    }
+
+    #[test]
+    fn every_operation_leaves_the_disc_as_it_found_it() {
+        for kind in Kind::ALL {
+            for disc in discs(kind) {
+                for operation in Operation::ALL {
+                    let mut lent = Lent::new(operation, &disc);
+                    // The first save makes a full directory grow.
+                    lent.repeat(&SECOND, 2);
+                    let before = lent.clone();
+                    assert_eq!(lent.repeat(&SECOND, 2), 0);
+                    assert!(lent == before, "{}", operation.name());
+                }
+            }
         }
     }
 
     #[test]
     fn a_refused_operation_is_not_timed() {
-        let mut disc = discs::few_large_files(Kind::Nine, 2);
+        let mut disc = discs::few_large_files(Kind::Nine, 5, discs::LEFT_FREE_FOR_LARGE);
         disc.kind = Kind::Ten;
         assert!(!done_on(&disc).into_iter().any(|done| done));
     }

@@ -1,36 +1,55 @@
 //! What is timed: calls on a disc that leave it as they found it, so that
 //! they can be repeated by both programs in turn.
 
-use crate::discs::Disc;
+use crate::discs::{Disc, LEFT_FREE, LEFT_FREE_FOR_LARGE};
 use crate::measure::Work;
-use crate::program::Program;
+use crate::program::{Program, SECOND};
+use compare::writing::{LONGEST_LIST, RECORD};
 
+/// Takes one sector.
+const SMALL_BYTES: usize = 200;
 const SAVED_BYTES: usize = 2000;
+/// Takes 36 sectors.
+const LARGE_BYTES: usize = 9000;
 const NEW_NAME: &[u8] = b"NEW.FIL";
 const DISC_NAME: &[u8] = b"BENCH";
 /// Holds every answer.
 const BUFFER_BYTES: usize = 65_536;
 
+/// Save, delete, rename and protect give their lists of writes.
 #[derive(Debug, Clone, Copy, PartialEq, Eq)]
 pub enum Operation {
     Check,
     List,
     Read,
+    SaveSmall,
     SaveAndDelete,
+    SaveLarge,
+    /// The file's three sectors are brought back by a replay.
+    DeleteAndReplay,
     Rename,
     Protect,
+    /// Of the list of a small and of a large save, on the disc that has the file
+    /// already.
+    ReplaySmall,
+    ReplayLarge,
     Blank,
     ViewNumber,
 }
 
 impl Operation {
-    pub const ALL: [Operation; 8] = [
+    pub const ALL: [Operation; 13] = [
         Operation::Check,
         Operation::List,
         Operation::Read,
+        Operation::SaveSmall,
         Operation::SaveAndDelete,
+        Operation::SaveLarge,
+        Operation::DeleteAndReplay,
         Operation::Rename,
         Operation::Protect,
+        Operation::ReplaySmall,
+        Operation::ReplayLarge,
         Operation::Blank,
         Operation::ViewNumber,
     ];
@@ -40,11 +59,33 @@ impl Operation {
             Operation::Check => "check",
             Operation::List => "list",
             Operation::Read => "read",
+            Operation::SaveSmall => "small save + delete",
             Operation::SaveAndDelete => "save + delete",
+            Operation::SaveLarge => "large save + delete",
+            Operation::DeleteAndReplay => "delete and replay back",
             Operation::Rename => "rename and back",
             Operation::Protect => "protect on and off",
+            Operation::ReplaySmall => "replay of a small save",
+            Operation::ReplayLarge => "replay of a large save",
             Operation::Blank => "blank",
             Operation::ViewNumber => "view number",
+        }
+    }
+
+    /// How many bytes are saved, if any are.
+    fn sheet_bytes(self) -> usize {
+        match self {
+            Operation::SaveSmall | Operation::ReplaySmall => SMALL_BYTES,
+            Operation::SaveLarge | Operation::ReplayLarge => LARGE_BYTES,
+            _ => SAVED_BYTES,
+        }
+    }
+
+    /// How many sectors a disc for it has free.
+    pub fn left_free(self) -> usize {
+        match self {
+            Operation::SaveLarge | Operation::ReplayLarge => LEFT_FREE_FOR_LARGE,
+            _ => LEFT_FREE,
         }
     }
 }
@@ -60,20 +101,72 @@ pub struct Lent {
     file: Vec<u8>,
     sheet: Vec<u8>,
     buffer: Vec<u8>,
+    /// For the lists of the commands.
+    writes: Vec<u8>,
+    /// The list that is replayed.
+    list: Vec<u8>,
     last_track: u32,
 }
 
 impl Lent {
     pub fn new(operation: Operation, disc: &Disc) -> Lent {
-        Lent {
+        let length = operation.sheet_bytes();
+        let mut lent = Lent {
             operation,
             image: disc.image.clone(),
             sectors: disc.kind.sectors(),
             arrangement: disc.kind.arrangement(),
             file: disc.file.clone(),
-            sheet: (0..SAVED_BYTES).map(|at| (at * 11) as u8).collect(),
+            sheet: (0..length).map(|at| (at * 11) as u8).collect(),
             buffer: vec![0; BUFFER_BYTES],
+            writes: vec![0; LONGEST_LIST],
+            list: Vec::new(),
             last_track: disc.last_track(),
+        };
+        lent.make_list();
+        lent
+    }
+
+    /// A save is made by the second program and its list kept. Of a delete, made
+    /// on a copy, the same sectors are kept as they stand before it. A refused
+    /// one has a list of no bytes, which is refused too.
+    fn make_list(&mut self) {
+        match self.operation {
+            Operation::ReplaySmall | Operation::ReplayLarge => {
+                self.save(&SECOND);
+                self.list = self.written();
+            }
+            Operation::DeleteAndReplay => {
+                let mut deleted = self.clone();
+                deleted.delete(&SECOND);
+                self.list = deleted.written();
+                self.take_back();
+            }
+            _ => {}
+        }
+    }
+
+    /// The list at the front of the writes, which hold zeros behind it.
+    fn written(&self) -> Vec<u8> {
+        let records = self
+            .writes
+            .chunks(RECORD)
+            .take_while(|record| record[0] != 0);
+        let mut list = records.collect::<Vec<_>>().concat();
+        if !list.is_empty() {
+            list.push(0);
+        }
+        list
+    }
+
+    /// Gives the records of the list the bytes that the image has.
+    fn take_back(&mut self) {
+        let (sectors, arrangement) = (self.sectors, self.arrangement);
+        for record in self.list.chunks_exact_mut(RECORD) {
+            let (track, sector) = (u32::from(record[1]), u32::from(record[2]));
+            let start = reference::view_start(&self.image, sectors, arrangement, track, sector);
+            let start = start as usize - 2;
+            record[3..].copy_from_slice(&self.image[start..start + 256]);
         }
     }
 }
@@ -87,9 +180,15 @@ impl Work for Lent {
             Operation::Check => summed(times, || self.check(program)),
             Operation::List => summed(times, || self.list(program)),
             Operation::Read => summed(times, || self.read(program)),
-            Operation::SaveAndDelete => summed(times, || self.save_and_delete(program)),
+            Operation::SaveSmall | Operation::SaveAndDelete | Operation::SaveLarge => {
+                summed(times, || self.save_and_delete(program))
+            }
+            Operation::DeleteAndReplay => summed(times, || self.delete_and_replay(program)),
             Operation::Rename => summed(times, || self.rename_and_back(program)),
             Operation::Protect => summed(times, || self.protect_on_and_off(program)),
+            Operation::ReplaySmall | Operation::ReplayLarge => {
+                summed(times, || self.replay(program))
+            }
             Operation::Blank => summed(times, || self.blank(program)),
             Operation::ViewNumber => summed(times, || self.view_number(program)),
         }
@@ -117,9 +216,9 @@ impl Lent {
         (program.read)(image, sectors, arrangement, &self.file, buffer).number
     }
 
-    fn save_and_delete(&mut self, program: &Program) -> u32 {
+    fn save(&mut self, program: &Program) -> u32 {
         let (sectors, arrangement) = (self.sectors, self.arrangement);
-        let (image, sheet) = (&mut self.image, &self.sheet);
+        let (image, sheet, writes) = (&mut self.image, &self.sheet, &mut self.writes);
         (program.save)(
             image,
             sectors,
@@ -129,21 +228,45 @@ impl Lent {
             0x2000,
             0x2000,
             sheet,
-        ) + (program.delete)(image, sectors, arrangement, NEW_NAME)
+            writes,
+        )
+        .number
+    }
+
+    fn save_and_delete(&mut self, program: &Program) -> u32 {
+        let saved = self.save(program);
+        let (sectors, arrangement) = (self.sectors, self.arrangement);
+        let (image, writes) = (&mut self.image, &mut self.writes);
+        saved + (program.delete)(image, sectors, arrangement, NEW_NAME, writes).number
+    }
+
+    fn delete(&mut self, program: &Program) -> u32 {
+        let (sectors, arrangement) = (self.sectors, self.arrangement);
+        let (image, writes) = (&mut self.image, &mut self.writes);
+        (program.delete)(image, sectors, arrangement, &self.file, writes).number
+    }
+
+    fn replay(&mut self, program: &Program) -> u32 {
+        let (sectors, arrangement) = (self.sectors, self.arrangement);
+        (program.replay)(&mut self.image, sectors, arrangement, &self.list)
+    }
+
+    fn delete_and_replay(&mut self, program: &Program) -> u32 {
+        self.delete(program) + self.replay(program)
     }
 
     fn rename_and_back(&mut self, program: &Program) -> u32 {
         let (sectors, arrangement) = (self.sectors, self.arrangement);
-        let (image, file) = (&mut self.image, &self.file);
-        (program.rename)(image, sectors, arrangement, file, NEW_NAME)
-            + (program.rename)(image, sectors, arrangement, NEW_NAME, file)
+        let (image, file, writes) = (&mut self.image, &self.file, &mut self.writes);
+        (program.rename)(image, sectors, arrangement, file, NEW_NAME, writes).number
+            + (program.rename)(image, sectors, arrangement, NEW_NAME, file, writes).number
     }
 
     fn protect_on_and_off(&mut self, program: &Program) -> u32 {
         let (sectors, arrangement) = (self.sectors, self.arrangement);
-        let (image, file) = (&mut self.image, &self.file);
-        (program.protect)(image, sectors, arrangement, file, 1)
-            + (program.protect)(image, sectors, arrangement, file, 0)
+        let (image, file, writes) = (&mut self.image, &self.file, &mut self.writes);
+        (program.protect)(image, sectors, arrangement, file, 1, writes).number
+            + (program.protect)(image, sectors, arrangement, file, 0, writes).number
     }
 
     fn blank(&mut self, program: &Program) -> u32 {
@@ -154,5 +277,24 @@ impl Lent {
     fn view_number(&self, program: &Program) -> u32 {
         let (sectors, arrangement) = (self.sectors, self.arrangement);
         (program.view_number)(&self.image, sectors, arrangement, self.last_track, sectors)
+    }
+}
+
+#[cfg(test)]
+mod tests {
+    use super::*;
+    use crate::discs;
+    use compare::kind::Kind;
+
+    #[test]
+    fn what_is_replayed_is_as_long_as_its_command_makes_it() {
+        for kind in Kind::ALL {
+            let disc = discs::few_large_files(kind, 5, LEFT_FREE_FOR_LARGE);
+            let records = |operation| Lent::new(operation, &disc).list.len() / RECORD;
+            assert_eq!(records(Operation::ReplaySmall), 1 + 2);
+            assert_eq!(records(Operation::ReplayLarge), 36 + 2);
+            assert_eq!(records(Operation::DeleteAndReplay), 3);
+            assert_eq!(records(Operation::SaveLarge), 0);
+        }
     }
 }

@@ -4,20 +4,23 @@
 //! the timing loops.
 
 use compare::ffi;
-use reference::{Checked, Listed, Reading};
+use reference::{Checked, Filled, Reading};
 
 type Read = fn(&[u8], u32, u32, &[u8], &mut [u8]) -> Reading;
-type Rename = fn(&mut [u8], u32, u32, &[u8], &[u8]) -> u32;
-type Save = fn(&mut [u8], u32, u32, &[u8], u32, u16, u16, &[u8]) -> u32;
+type Save = fn(&mut [u8], u32, u32, &[u8], u32, u16, u16, &[u8], &mut [u8]) -> Filled;
+type Delete = fn(&mut [u8], u32, u32, &[u8], &mut [u8]) -> Filled;
+type Rename = fn(&mut [u8], u32, u32, &[u8], &[u8], &mut [u8]) -> Filled;
+type Protect = fn(&mut [u8], u32, u32, &[u8], u32, &mut [u8]) -> Filled;
 
 pub struct Program {
     pub check: fn(&[u8], u32, u32) -> Checked,
-    pub list: fn(&[u8], u32, u32, &mut [u8]) -> Listed,
+    pub list: fn(&[u8], u32, u32, &mut [u8]) -> Filled,
     pub read: Read,
     pub save: Save,
-    pub delete: fn(&mut [u8], u32, u32, &[u8]) -> u32,
+    pub delete: Delete,
     pub rename: Rename,
-    pub protect: fn(&mut [u8], u32, u32, &[u8], u32) -> u32,
+    pub protect: Protect,
+    pub replay: fn(&mut [u8], u32, u32, &[u8]) -> u32,
     pub blank: fn(&mut [u8], u32, u32, &[u8]) -> u32,
     pub view_number: fn(&[u8], u32, u32, u32, u32) -> u32,
     pub add_sheet: fn(&mut [u32], &[u8]) -> u32,
@@ -31,6 +34,7 @@ pub static LIBRARY: Program = Program {
     delete: ffi::delete,
     rename: ffi::rename,
     protect: ffi::protect,
+    replay: ffi::replay,
     blank: ffi::blank,
     view_number: ffi::view_number,
     add_sheet: ffi::add_sheet,
@@ -44,6 +48,7 @@ pub static SECOND: Program = Program {
     delete: reference::delete,
     rename: reference::rename,
     protect: reference::protect,
+    replay: reference::replay,
     blank: reference::blank,
     view_number: reference::view_number,
     add_sheet: reference::add_sheet,

@@ -1,10 +1,15 @@
-//! The nine calls and the order of their refusals, as document 01 gives it.
+//! The ten calls and the order of their refusals, as document 01 and request e
+//! give it.
 
 use crate::kind::Stated;
 use reference::command::Command;
 
 /// The refusal of a wrong length, and of numbers that state no kind of disc.
 pub const SIZE: u32 = 1;
+/// A lent buffer can't hold the answer.
+pub const SHORT: u32 = 10;
+/// The bytes are no list of writes to sectors on the disc.
+pub const BAD_LIST: u32 = 14;
 
 #[derive(Debug, Clone, Copy, PartialEq, Eq, PartialOrd, Ord)]
 pub enum Call {
@@ -17,10 +22,11 @@ pub enum Call {
     Protect,
     Blank,
     View,
+    Replay,
 }
 
 impl Call {
-    pub const ALL: [Call; 9] = [
+    pub const ALL: [Call; 10] = [
         Call::Check,
         Call::List,
         Call::Read,
@@ -30,6 +36,7 @@ impl Call {
         Call::Protect,
         Call::Blank,
         Call::View,
+        Call::Replay,
     ];
 
     pub fn of(command: &Command) -> Call {
@@ -43,6 +50,7 @@ impl Call {
             Command::Protect { .. } => Call::Protect,
             Command::Blank { .. } => Call::Blank,
             Command::View { .. } => Call::View,
+            Command::Replay { .. } => Call::Replay,
         }
     }
 
@@ -57,6 +65,7 @@ impl Call {
             Call::Protect => "protect",
             Call::Blank => "blank",
             Call::View => "view",
+            Call::Replay => "replay",
         }
     }
 
@@ -66,12 +75,13 @@ impl Call {
             Call::Check => &[1],
             Call::List => &[1, 3, 10],
             Call::Read => &[1, 2, 3, 4, 9, 10],
-            Call::Save => &[1, 2, 7, 3, 5, 8],
-            Call::Delete => &[1, 2, 3, 4, 6],
-            Call::Rename => &[1, 2, 3, 4, 6, 5],
-            Call::Protect => &[1, 2, 3, 4],
+            Call::Save => &[1, 2, 7, 3, 5, 8, 10],
+            Call::Delete => &[1, 2, 3, 4, 6, 10],
+            Call::Rename => &[1, 2, 3, 4, 6, 5, 10],
+            Call::Protect => &[1, 2, 3, 4, 10],
             Call::Blank => &[1, 2],
             Call::View => &[1, 11],
+            Call::Replay => &[1, 14],
         }
     }
 
@@ -99,7 +109,8 @@ impl Call {
 
     /// Whether these refusals can apply at once. An absent file is neither
     /// protected nor other than plain, and an illegal name is no file's. Of
-    /// rename's two names one may be illegal and the other a file's.
+    /// rename's two names one may be illegal and the other a file's. No list is
+    /// of no bytes, so an empty buffer is short whatever else applies.
     pub fn can_all_apply(self, refusals: &[u32]) -> bool {
         let has = |number: &u32| refusals.contains(number);
         let of_old_name = [4, 6, 9].iter().filter(|number| has(number)).count();
@@ -121,8 +132,13 @@ mod tests {
             assert_eq!(Call::Check.pairs(stated), []);
             assert_eq!(Call::View.pairs(stated), [(1, 11)]);
             assert_eq!(Call::List.pairs(stated), [(1, 3), (1, 10), (3, 10)]);
-            let protect = [(1, 2), (1, 3), (1, 4), (2, 3), (3, 4)];
-            assert_eq!(Call::Protect.pairs(stated), protect);
+            let protect = [(1, 2), (1, 3), (1, 4), (1, 10), (2, 3), (2, 10), (3, 4)];
+            assert_eq!(Call::Protect.pairs(stated)[..7], protect);
+            assert_eq!(Call::Protect.pairs(stated)[7..], [(3, 10), (4, 10)]);
+            assert_eq!(Call::Replay.pairs(stated), [(1, 14)]);
+            assert!(Call::Save.pairs(stated).contains(&(8, 10)));
+            assert!(Call::Delete.pairs(stated).contains(&(6, 10)));
+            assert!(Call::Rename.pairs(stated).contains(&(5, 10)));
             assert!(Call::Rename.pairs(stated).contains(&(6, 5)));
             assert!(Call::Rename.pairs(stated).contains(&(2, 5)));
             assert!(!Call::Save.pairs(stated).contains(&(2, 5)));
@@ -135,7 +151,9 @@ mod tests {
     fn numbers_that_state_no_kind_are_answered_with_1() {
         for stated in [Stated::NoSectors, Stated::NoArrangement, Stated::NineMoved] {
             assert_eq!(Call::List.answers(stated), [1]);
-            assert_eq!(Call::Protect.pairs(stated), [(1, 2), (1, 3), (1, 4)]);
+            let protect = [(1, 2), (1, 3), (1, 4), (1, 10)];
+            assert_eq!(Call::Protect.pairs(stated), protect);
+            assert_eq!(Call::Replay.pairs(stated), [(1, 14)]);
         }
         assert_eq!(Call::List.answers(Stated::Kind(Kind::Nine)), [0, 1, 3, 10]);
     }

@@ -59,7 +59,7 @@ mod tests {
     use super::*;
     use crate::kind::Kind;
     use crate::met::Met;
-    use reference::command::{Answer, Command};
+    use reference::command::{Answer, Buffer, Command};
 
     #[test]
     fn every_statement_has_a_tally_of_its_own() {
@@ -69,7 +69,10 @@ mod tests {
             counts.missing().contains(&name)
         };
         let (nine, ten) = (Stated::Kind(Kind::Nine), Stated::Kind(Kind::Ten));
-        let delete = Command::Delete { name: Vec::new() };
+        let delete = Command::Delete {
+            name: Vec::new(),
+            writes: Buffer { length: 0, fill: 0 },
+        };
         let met = Met::by(&[], Kind::Nine.numbers());
         counts.of(nine).call(&delete, &Answer::Number(6), met);
         assert!(!missing(&counts, nine, 6) && missing(&counts, nine, 4));

@@ -27,7 +27,9 @@ fn parts(answer: &Answer) -> (String, &[u8]) {
     match answer {
         Answer::Number(number) => (number.to_string(), &[]),
         Answer::Checked(checked) => (format!("{checked:?}"), &[]),
-        Answer::Listed(listed, buffer) => (format!("{listed:?}"), buffer),
+        Answer::Listed(filled, buffer) | Answer::Wrote(filled, buffer) => {
+            (format!("{filled:?}"), buffer)
+        }
         Answer::Read(reading, buffer) => (format!("{reading:?}"), buffer),
         Answer::Viewed {
             number,
@@ -94,7 +96,7 @@ pub fn describe(command: &Command, numbers: Numbers) -> String {
 }
 
 fn without_numbers(command: &Command) -> String {
-    match command {
+    let call = match command {
         Command::Check => "check".to_string(),
         Command::List { buffer } => format!("list, buffer of {} bytes", buffer.length),
         Command::Read { name, buffer } => {
@@ -106,28 +108,34 @@ fn without_numbers(command: &Command) -> String {
             start,
             transfer,
             sheet,
+            ..
         } => format!(
             "save {}, page {page}, start {start}, transfer {transfer}, {}",
             typed(name),
-            shortened(sheet)
+            shortened("sheet", sheet)
         ),
-        Command::Delete { name } => format!("delete {}", typed(name)),
-        Command::Rename { old, new } => format!("rename {} to {}", typed(old), typed(new)),
-        Command::Protect { name, on } => format!("protect {}, {on}", typed(name)),
+        Command::Delete { name, .. } => format!("delete {}", typed(name)),
+        Command::Rename { old, new, .. } => format!("rename {} to {}", typed(old), typed(new)),
+        Command::Protect { name, on, .. } => format!("protect {}, {on}", typed(name)),
         Command::Blank { name } => format!("blank {}", typed(name)),
         Command::View { track, sector } => format!("view {track}/{sector}"),
+        Command::Replay { writes } => format!("replay of a {}", shortened("list", writes)),
+    };
+    match command.lent_for_writes() {
+        Some(writes) => format!("{call}, {} bytes lent for the list", writes.length),
+        None => call,
     }
 }
 
 /// A call of the weekly totals; the totals are told by their number alone.
 pub fn describe_adding(totals: &[u32], sheet: &[u8]) -> String {
-    let (count, sheet) = (totals.len(), shortened(sheet));
+    let (count, sheet) = (totals.len(), shortened("sheet", sheet));
     format!("add sheet to {count} totals, {sheet}")
 }
 
-fn shortened(sheet: &[u8]) -> String {
-    let front = &sheet[..sheet.len().min(4)];
-    format!("sheet of {} bytes ({front:02X?}..)", sheet.len())
+fn shortened(what: &str, bytes: &[u8]) -> String {
+    let front = &bytes[..bytes.len().min(4)];
+    format!("{what} of {} bytes ({front:02X?}..)", bytes.len())
 }
 
 fn typed(name: &[u8]) -> String {
@@ -143,7 +151,8 @@ fn typed(name: &[u8]) -> String {
 mod tests {
     use super::*;
     use crate::kind::Kind;
-    use reference::Listed;
+    use reference::command::Buffer;
+    use reference::Filled;
 
     #[test]
     fn the_first_differing_byte_is_named() {
@@ -178,7 +187,7 @@ mod tests {
 
     #[test]
     fn numbers_come_before_buffers() {
-        let listed = |length| Answer::Listed(Listed { number: 0, length }, vec![length as u8]);
+        let listed = |length| Answer::Listed(Filled { number: 0, length }, vec![length as u8]);
         assert_eq!(between_answers(&listed(3), &listed(3)), None);
         let text = between_answers(&listed(3), &listed(4)).expect("a difference");
         assert!(text.contains("length: 3") && text.contains("length: 4"));
@@ -188,10 +197,14 @@ mod tests {
     fn names_are_shown_with_escapes() {
         let command = Command::Delete {
             name: b"A\0'".to_vec(),
+            writes: Buffer {
+                length: 778,
+                fill: 1,
+            },
         };
         assert_eq!(
             describe(&command, Kind::Moved.numbers()),
-            r"delete 'A\x00\'', stated 10 sectors, arrangement 1"
+            r"delete 'A\x00\'', 778 bytes lent for the list, stated 10 sectors, arrangement 1"
         );
     }
 }

@@ -2,6 +2,7 @@
 //! generators.
 
 use crate::kind::{Kind, Numbers};
+use crate::writing::LONGEST_LIST;
 use reference::generate::{capacity, damage, fresh_name, sound_disc_of, Random};
 
 const MOST_TRACKS: usize = 80;
@@ -9,6 +10,7 @@ const MOST_TRACKS: usize = 80;
 const NO_ROOM: u32 = 8;
 const FREE_POINTER: usize = 0x10;
 const FREE_COUNT: usize = 0x14;
+pub const SLOTS_PER_DIRECTORY_SECTOR: usize = 15;
 
 /// Mostly few, so that many calls take little time; one image in `chances` has
 /// more than 25, and as many have more than 5.
@@ -53,9 +55,17 @@ pub fn blank(random: &mut Random, kind: Kind, tracks: usize) -> Vec<u8> {
     image
 }
 
-/// A blank disc with as many tracks as there are.
+/// A disc with as many tracks as there are, blank or with one directory sector
+/// full.
 pub fn largest(random: &mut Random, kind: Kind) -> Vec<u8> {
-    blank(random, kind, MOST_TRACKS)
+    let mut image = blank(random, kind, MOST_TRACKS);
+    if !random.one_in(3) {
+        for number in 0..SLOTS_PER_DIRECTORY_SECTOR {
+            let name = format!("F{number}");
+            assert_eq!(save(&mut image, kind, name.as_bytes(), &[1]), 0);
+        }
+    }
+    image
 }
 
 /// A sound disc of the other number of sectors, as long as one of this kind:
@@ -73,7 +83,8 @@ pub fn misstated(random: &mut Random, kind: Kind) -> Vec<u8> {
 /// Saves a sheet on page 0 by the second program.
 pub fn save(image: &mut [u8], kind: Kind, name: &[u8], sheet: &[u8]) -> u32 {
     let (sectors, arrangement) = (kind.sectors(), kind.arrangement());
-    reference::save(image, sectors, arrangement, name, 0, 0, 0, sheet)
+    let writes = &mut vec![0; LONGEST_LIST];
+    reference::save(image, sectors, arrangement, name, 0, 0, 0, sheet, writes).number
 }
 
 /// Files of any length on a disc with at most three free sectors left.

@@ -6,7 +6,7 @@
 
 #![allow(unsafe_code)]
 
-use reference::{Checked, Listed, Reading};
+use reference::{Checked, Filled, Reading};
 
 #[repr(C)]
 struct CChecked {
@@ -15,7 +15,7 @@ struct CChecked {
 }
 
 #[repr(C)]
-struct CListed {
+struct CFilled {
     number: u32,
     length: u32,
 }
@@ -40,7 +40,7 @@ extern "C" {
         arrangement: u32,
         buffer: *mut u8,
         buffer_len: usize,
-    ) -> CListed;
+    ) -> CFilled;
     fn tandos_read(
         image: *const u8,
         image_len: usize,
@@ -63,7 +63,9 @@ extern "C" {
         transfer: u16,
         sheet: *const u8,
         sheet_len: usize,
-    ) -> u32;
+        writes: *mut u8,
+        writes_len: usize,
+    ) -> CFilled;
     fn tandos_delete(
         image: *mut u8,
         image_len: usize,
@@ -71,7 +73,9 @@ extern "C" {
         arrangement: u32,
         name: *const u8,
         name_len: usize,
-    ) -> u32;
+        writes: *mut u8,
+        writes_len: usize,
+    ) -> CFilled;
     fn tandos_rename(
         image: *mut u8,
         image_len: usize,
@@ -81,7 +85,9 @@ extern "C" {
         old_len: usize,
         new_name: *const u8,
         new_len: usize,
-    ) -> u32;
+        writes: *mut u8,
+        writes_len: usize,
+    ) -> CFilled;
     fn tandos_protect(
         image: *mut u8,
         image_len: usize,
@@ -90,6 +96,16 @@ extern "C" {
         name: *const u8,
         name_len: usize,
         on: u32,
+        writes: *mut u8,
+        writes_len: usize,
+    ) -> CFilled;
+    fn tandos_replay(
+        image: *mut u8,
+        image_len: usize,
+        sectors: u32,
+        arrangement: u32,
+        writes: *const u8,
+        writes_len: usize,
     ) -> u32;
     fn tandos_blank(
         image: *mut u8,
@@ -131,7 +147,7 @@ pub fn check(image: &[u8], sectors: u32, arrangement: u32) -> Checked {
     }
 }
 
-pub fn list(image: &[u8], sectors: u32, arrangement: u32, buffer: &mut [u8]) -> Listed {
+pub fn list(image: &[u8], sectors: u32, arrangement: u32, buffer: &mut [u8]) -> Filled {
     let (lent, lent_len) = (buffer.as_mut_ptr(), buffer.len());
     let answer = unsafe {
         tandos_list(
@@ -143,7 +159,11 @@ pub fn list(image: &[u8], sectors: u32, arrangement: u32, buffer: &mut [u8]) -> 
             lent_len,
         )
     };
-    Listed {
+    filled(answer)
+}
+
+fn filled(answer: CFilled) -> Filled {
+    Filled {
         number: answer.number,
         length: answer.length,
     }
@@ -188,8 +208,9 @@ pub fn save(
     start: u16,
     transfer: u16,
     sheet: &[u8],
-) -> u32 {
-    unsafe {
+    writes: &mut [u8],
+) -> Filled {
+    filled(unsafe {
         tandos_save(
             image.as_mut_ptr(),
             image.len(),
@@ -202,12 +223,20 @@ pub fn save(
             transfer,
             sheet.as_ptr(),
             sheet.len(),
+            writes.as_mut_ptr(),
+            writes.len(),
         )
-    }
+    })
 }
 
-pub fn delete(image: &mut [u8], sectors: u32, arrangement: u32, name: &[u8]) -> u32 {
-    unsafe {
+pub fn delete(
+    image: &mut [u8],
+    sectors: u32,
+    arrangement: u32,
+    name: &[u8],
+    writes: &mut [u8],
+) -> Filled {
+    filled(unsafe {
         tandos_delete(
             image.as_mut_ptr(),
             image.len(),
@@ -215,12 +244,21 @@ pub fn delete(image: &mut [u8], sectors: u32, arrangement: u32, name: &[u8]) -> 
             arrangement,
             name.as_ptr(),
             name.len(),
+            writes.as_mut_ptr(),
+            writes.len(),
         )
-    }
+    })
 }
 
-pub fn rename(image: &mut [u8], sectors: u32, arrangement: u32, old: &[u8], new: &[u8]) -> u32 {
-    unsafe {
+pub fn rename(
+    image: &mut [u8],
+    sectors: u32,
+    arrangement: u32,
+    old: &[u8],
+    new: &[u8],
+    writes: &mut [u8],
+) -> Filled {
+    filled(unsafe {
         tandos_rename(
             image.as_mut_ptr(),
             image.len(),
@@ -230,12 +268,21 @@ pub fn rename(image: &mut [u8], sectors: u32, arrangement: u32, old: &[u8], new:
             old.len(),
             new.as_ptr(),
             new.len(),
+            writes.as_mut_ptr(),
+            writes.len(),
         )
-    }
+    })
 }
 
-pub fn protect(image: &mut [u8], sectors: u32, arrangement: u32, name: &[u8], on: u32) -> u32 {
-    unsafe {
+pub fn protect(
+    image: &mut [u8],
+    sectors: u32,
+    arrangement: u32,
+    name: &[u8],
+    on: u32,
+    writes: &mut [u8],
+) -> Filled {
+    filled(unsafe {
         tandos_protect(
             image.as_mut_ptr(),
             image.len(),
@@ -244,6 +291,21 @@ pub fn protect(image: &mut [u8], sectors: u32, arrangement: u32, name: &[u8], on
             name.as_ptr(),
             name.len(),
             on,
+            writes.as_mut_ptr(),
+            writes.len(),
+        )
+    })
+}
+
+pub fn replay(image: &mut [u8], sectors: u32, arrangement: u32, writes: &[u8]) -> u32 {
+    unsafe {
+        tandos_replay(
+            image.as_mut_ptr(),
+            image.len(),
+            sectors,
+            arrangement,
+            writes.as_ptr(),
+            writes.len(),
         )
     }
 }

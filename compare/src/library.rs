@@ -4,29 +4,41 @@
 use crate::ffi;
 use crate::kind::Numbers;
 use crate::lend::{Item, Lent};
-use reference::command::{Answer, Command};
+use crate::writing::Writing;
+use reference::command::{Answer, Buffer, Command};
 use reference::generate::Random;
 use reference::history::Program;
-use reference::Reading;
+use reference::{Filled, Reading};
 use std::cell::RefCell;
 
 const VIEW_BYTES: usize = 254;
+/// Zeros that may stand behind a list to replay. They end one without an end,
+/// or fill up a cut record and then end it, for a call that reads on.
+const ZEROS_BEHIND: [usize; 3] = [0, 1, 300];
 
 /// The library for the claims of the history. What it may write in is lent
 /// between guard bytes here too.
-#[derive(Debug, Default)]
+#[derive(Debug)]
 pub struct Library {
+    writing: Writing,
     stray_write: RefCell<Option<String>>,
 }
 
 impl Library {
+    pub fn new(writing: Writing) -> Library {
+        Library {
+            writing,
+            stray_write: RefCell::default(),
+        }
+    }
+
     /// The first write of these calls beside what was lent to them.
     pub fn stray_write(self) -> Option<String> {
         self.stray_write.into_inner()
     }
 
     /// Lends a guarded copy of `bytes` to a call and copies it back.
-    fn guarded<T>(&self, what: &str, bytes: &mut [u8], call: impl Fn(&mut [u8]) -> T) -> T {
+    fn guarded<T>(&self, what: &str, bytes: &mut [u8], call: impl FnOnce(&mut [u8]) -> T) -> T {
         let mut lent = Lent::shifted(bytes.len(), bytes);
         let answer = call(lent.content_mut());
         bytes.copy_from_slice(lent.content());
@@ -61,18 +73,24 @@ impl Program for Library {
         start: u16,
         transfer: u16,
         sheet: &[u8],
-    ) -> u32 {
-        self.guarded("image", image, |lent| {
-            ffi::save(
-                lent,
-                sectors,
-                arrangement,
-                name,
-                page,
-                start,
-                transfer,
-                sheet,
-            )
+        writes: &mut [u8],
+    ) -> Filled {
+        let numbers = Numbers {
+            sectors,
+            arrangement,
+        };
+        let command = Command::Save {
+            name: Vec::new(),
+            page,
+            start,
+            transfer,
+            sheet: Vec::new(),
+            writes: Buffer { length: 0, fill: 0 },
+        };
+        self.guarded("image", image, |image| {
+            self.guarded("writes", writes, |writes| {
+                (self.writing.change)(&command, image, numbers, [name, sheet], writes)
+            })
         })
     }
 }
@@ -83,20 +101,48 @@ pub struct Outcome {
     pub stray_write: Option<String>,
 }
 
-pub fn run(random: &mut Random, command: &Command, numbers: Numbers, image: &mut Lent) -> Outcome {
+pub fn run(
+    random: &mut Random,
+    writing: Writing,
+    command: &Command,
+    numbers: Numbers,
+    image: &mut Lent,
+) -> Outcome {
+    if let Command::Replay { writes } = command {
+        return replay(random, writing, writes, numbers, image);
+    }
     let texts = texts(command);
     let mut lent = Arguments {
-        first: Lent::new(random, texts.0),
-        second: Lent::new(random, texts.1),
+        first: Lent::new(random, texts[0]),
+        second: Lent::new(random, texts[1]),
         buffer: Lent::new(random, &buffer(command)),
     };
-    let answer = call(command, image.content_mut(), numbers, &mut lent);
+    let answer = call(command, writing, image.content_mut(), numbers, &mut lent);
     let stray_write = beside("buffer", &lent.buffer)
-        .or_else(|| in_or_beside("name", &lent.first, texts.0))
-        .or_else(|| in_or_beside("sheet or new name", &lent.second, texts.1));
+        .or_else(|| in_or_beside("name", &lent.first, texts[0]))
+        .or_else(|| in_or_beside("sheet or new name", &lent.second, texts[1]));
     Outcome {
         answer,
         stray_write,
+    }
+}
+
+/// The list stands between guard bytes, some zeros behind it.
+fn replay(
+    random: &mut Random,
+    writing: Writing,
+    writes: &[u8],
+    numbers: Numbers,
+    image: &mut Lent,
+) -> Outcome {
+    let mut bytes = writes.to_vec();
+    bytes.resize(writes.len() + random.pick(&ZEROS_BEHIND), 0);
+    let mut lent = Lent::new(random, &bytes);
+    let list = &mut lent.content_mut()[..writes.len()];
+    let number = (writing.replay)(image.content_mut(), numbers, list);
+    Outcome {
+        answer: Answer::Number(number),
+        stray_write: in_or_beside("list of writes", &lent, &bytes),
     }
 }
 
@@ -107,32 +153,43 @@ struct Arguments {
     buffer: Lent,
 }
 
-/// The bytes that a command lends for reading only.
-fn texts(command: &Command) -> (&[u8], &[u8]) {
+/// The bytes that a command lends for reading only; a replay's list is lent
+/// apart.
+fn texts(command: &Command) -> [&[u8]; 2] {
     match command {
-        Command::Check | Command::List { .. } | Command::View { .. } => (&[], &[]),
+        Command::Check | Command::List { .. } | Command::View { .. } | Command::Replay { .. } => {
+            [&[], &[]]
+        }
         Command::Read { name, .. }
-        | Command::Delete { name }
+        | Command::Delete { name, .. }
         | Command::Protect { name, .. }
-        | Command::Blank { name } => (name, &[]),
-        Command::Save { name, sheet, .. } => (name, sheet),
-        Command::Rename { old, new } => (old, new),
+        | Command::Blank { name } => [name, &[]],
+        Command::Save { name, sheet, .. } => [name, sheet],
+        Command::Rename { old, new, .. } => [old, new],
     }
 }
 
 fn buffer(command: &Command) -> Vec<u8> {
-    match command {
-        Command::List { buffer } | Command::Read { buffer, .. } => buffer.lend(),
-        _ => Vec::new(),
-    }
+    let buffer = match command {
+        Command::List { buffer } | Command::Read { buffer, .. } => Some(*buffer),
+        other => other.lent_for_writes(),
+    };
+    buffer.map_or_else(Vec::new, Buffer::lend)
 }
 
-fn call(command: &Command, image: &mut [u8], numbers: Numbers, lent: &mut Arguments) -> Answer {
+fn call(
+    command: &Command,
+    writing: Writing,
+    image: &mut [u8],
+    numbers: Numbers,
+    lent: &mut Arguments,
+) -> Answer {
     let Numbers {
         sectors,
         arrangement,
     } = numbers;
-    let name = lent.first.content();
+    let texts = [lent.first.content(), lent.second.content()];
+    let name = texts[0];
     let buffer = lent.buffer.content_mut();
     match command {
         Command::Check => Answer::Checked(ffi::check(image, sectors, arrangement)),
@@ -145,38 +202,11 @@ fn call(command: &Command, image: &mut [u8], numbers: Numbers, lent: &mut Argume
             buffer.to_vec(),
         ),
         Command::View { track, sector } => viewed(image, numbers, *track, *sector),
-        writing => Answer::Number(call_writing(writing, image, numbers, lent)),
-    }
-}
-
-/// The commands that may change the image; the others leave it and give 0.
-fn call_writing(command: &Command, image: &mut [u8], numbers: Numbers, lent: &Arguments) -> u32 {
-    let Numbers {
-        sectors,
-        arrangement,
-    } = numbers;
-    let (first, second) = (lent.first.content(), lent.second.content());
-    match command {
-        Command::Save {
-            page,
-            start,
-            transfer,
-            ..
-        } => ffi::save(
-            image,
-            sectors,
-            arrangement,
-            first,
-            *page,
-            *start,
-            *transfer,
-            second,
-        ),
-        Command::Delete { .. } => ffi::delete(image, sectors, arrangement, first),
-        Command::Rename { .. } => ffi::rename(image, sectors, arrangement, first, second),
-        Command::Protect { on, .. } => ffi::protect(image, sectors, arrangement, first, *on),
-        Command::Blank { .. } => ffi::blank(image, sectors, arrangement, first),
-        Command::Check | Command::List { .. } | Command::Read { .. } | Command::View { .. } => 0,
+        Command::Blank { .. } => Answer::Number(ffi::blank(image, sectors, arrangement, name)),
+        changing => {
+            let filled = (writing.change)(changing, image, numbers, texts, buffer);
+            Answer::Wrote(filled, buffer.to_vec())
+        }
     }
 }
 

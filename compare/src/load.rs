@@ -1,7 +1,9 @@
 //! Many commands on one image of each kind: what shows only after a long
 //! history, such as a free chain that has passed every sector in many orders.
-//! After each command one sheet more is added to a table of totals.
+//! The lists of writes keep an older copy of each image up, as a card reader
+//! would. After each command one sheet more is added to a table of totals.
 
+mod card;
 mod sheets;
 
 use crate::difference::describe;
@@ -9,8 +11,10 @@ use crate::discs;
 use crate::kind::{Kind, Stated};
 use crate::met::Met;
 use crate::pair::Pair;
-use crate::run::{any_command, small_file_command, Draw};
+use crate::run::{any_command, small_file_command, some_room, Draw};
 use crate::tally::Tally;
+use crate::writing::OF_LIBRARY;
+use card::Card;
 use reference::command::Command;
 use reference::generate::{fresh_name, standing_names, Random};
 use sheets::Sheets;
@@ -78,6 +82,7 @@ impl Load {
 struct Image {
     kind: Kind,
     pair: Pair,
+    card: Card,
     tally: Tally,
     commands: u64,
     most_files: usize,
@@ -90,7 +95,8 @@ impl Image {
         let image = discs::blank(random, kind, TRACKS);
         Image {
             kind,
-            pair: Pair::new(random, image, kind.numbers()),
+            card: Card::new(&image, kind.numbers()),
+            pair: Pair::new(random, image, kind.numbers(), OF_LIBRARY),
             tally: Tally::new(Stated::Kind(kind)),
             commands: 0,
             most_files: 0,
@@ -128,6 +134,7 @@ impl Image {
         let answer = self.pair.step(random, command)?;
         self.tally.call(command, &answer, met);
         self.observe();
+        self.card.take(command, &answer, self.pair.image())?;
         let fault = if self.commands % WHOLE_MOMENT_EVERY == 0 {
             self.tally.moments += 1;
             self.pair.moment_fault()
@@ -153,8 +160,15 @@ fn clearing_command(random: &mut Random, image: &[u8], kind: Kind) -> Command {
         count => standing[random.below(count)].clone(),
     };
     match random.below(4) {
-        0 => Command::Protect { name, on: 0 },
-        1 | 2 => Command::Delete { name },
+        0 => Command::Protect {
+            name,
+            on: 0,
+            writes: some_room(random, 1),
+        },
+        1 | 2 => Command::Delete {
+            name,
+            writes: some_room(random, 3),
+        },
         _ => any_command(random, image, kind),
     }
 }
@@ -177,11 +191,12 @@ impl fmt::Display for Image {
             self.most_directory
         )?;
         writeln!(out, "moments without a free sector: {}", self.full_moments)?;
-        write!(
+        writeln!(
             out,
             "moments with each file read: {}; with the places of all sectors: all",
             self.tally.moments
-        )
+        )?;
+        write!(out, "{}", self.card)
     }
 }
 

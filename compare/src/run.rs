@@ -5,19 +5,25 @@ mod totals;
 
 #[cfg(test)]
 mod planted;
+#[cfg(test)]
+mod planted_lists;
 
 use crate::calls::{Call, SIZE};
 use crate::count::Counts;
 use crate::difference::describe;
 use crate::discs;
 use crate::kind::{Kind, Numbers, Stated};
+use crate::list_case::Target;
+use crate::list_tally::Made;
 use crate::met::Met;
 use crate::pair::Pair;
 use crate::several::Case;
 use crate::table::{self, AddSheet};
 use crate::twin::Twin;
+use crate::writing::{Writing, LONGEST_LIST, OF_LIBRARY, RECORD};
 use reference::command::{Answer, Buffer, Command};
-use reference::generate::{self, fresh_name, Random};
+use reference::generate::{self, fresh_name, standing_names, Random, Replays};
+use reference::writes_book::list_length;
 
 const MOST_REPORTS: u64 = 10;
 const CASES_IN_A_RUN: usize = 16;
@@ -32,6 +38,11 @@ const NO_KIND_IN: usize = 6;
 const FITTED_IN: usize = 3;
 /// One command of a run in so many is called with other numbers first.
 const ASIDE_IN: usize = 8;
+/// One run in so many has replays, and one command of it in so many is drawn for
+/// that.
+const REPLAYS_IN: usize = 3;
+/// Of the commands that the second program draws there, one in so many replays.
+const REPLAYS_OF_SECOND_IN: usize = 2;
 /// One call in so many is made on the other arrangement too.
 const TWIN_IN: usize = 3;
 
@@ -43,8 +54,9 @@ pub struct Driver {
     seed: u64,
     /// Prints each command before it is run.
     verbose: bool,
-    /// The library's, unless a test plants another.
+    /// The library's, unless a test plants another; so is `writing`.
     add_sheet: AddSheet,
+    writing: Writing,
     pub counts: Counts,
 }
 
@@ -57,6 +69,17 @@ struct Run {
     kind: Kind,
     numbers: Numbers,
     draw: Draw,
+    with_replays: bool,
+}
+
+impl Run {
+    fn next(&self, random: &mut Random, image: &[u8], replays: &mut Replays) -> Command {
+        if self.with_replays && random.one_in(REPLAYS_IN) {
+            replay_command(random, image, self.kind, replays)
+        } else {
+            (self.draw)(random, image, self.kind)
+        }
+    }
 }
 
 /// Where a command stands, to find it again.
@@ -72,6 +95,7 @@ impl Driver {
             seed,
             verbose,
             add_sheet: table::of_library,
+            writing: OF_LIBRARY,
             counts: Counts::default(),
         }
     }
@@ -101,7 +125,8 @@ impl Driver {
         let numbers = Stated::draw(random, NO_KIND_IN).numbers(random);
         let kind = numbers.of_image(random);
         let (mut image, draw, most): (_, Draw, _) = match shape {
-            0..=4 => (discs::sound(random, kind), any_command, 50),
+            0..=3 => (discs::sound(random, kind), any_command, 50),
+            4 => (discs::sound(random, kind), listing_command, 50),
             5..=6 => (discs::nearly_full(random, kind), any_command, 40),
             7..=8 => (discs::small_files(random, kind), small_file_command, 40),
             9 => (discs::wide_directory(random, kind), any_command, 20),
@@ -120,6 +145,7 @@ impl Driver {
             kind,
             numbers,
             draw,
+            with_replays: random.one_in(REPLAYS_IN),
         };
         self.list(random, run);
     }
@@ -127,7 +153,8 @@ impl Driver {
     /// A check, whose moment is that of the start, then drawn commands. The
     /// run ends with the first difference, since the images differ from there.
     fn list(&mut self, random: &mut Random, run: Run) {
-        let mut pair = Pair::new(random, run.image, run.numbers);
+        let mut pair = Pair::new(random, run.image.clone(), run.numbers, self.writing);
+        let mut replays = Replays::one_in(REPLAYS_OF_SECOND_IN);
         let mut next = Command::Check;
         for command in 0..run.length {
             let place = Place {
@@ -137,10 +164,11 @@ impl Driver {
             if random.one_in(ASIDE_IN) {
                 self.aside(random, &pair, &next, place);
             }
-            if self.step(random, &mut pair, &next, None, place).is_none() {
-                break;
+            match self.step(random, &mut pair, &next, None, place) {
+                Some(answer) => replays.heard(&answer),
+                None => break,
             }
-            next = (run.draw)(random, pair.image(), run.kind);
+            next = run.next(random, pair.image(), &mut replays);
         }
     }
 
@@ -150,7 +178,7 @@ impl Driver {
         let of_run = pair.numbers().stated();
         let stated = of_run.another(random);
         let numbers = stated.numbers(random);
-        let mut copy = Pair::new(random, pair.image().to_vec(), numbers);
+        let mut copy = Pair::new(random, pair.image().to_vec(), numbers, self.writing);
         if self.step(random, &mut copy, command, None, place).is_some() {
             self.counts.of(of_run).aside(stated);
         }
@@ -161,7 +189,7 @@ impl Driver {
         for command in 0..CASES_IN_A_RUN {
             let case = Case::draw(random);
             let expected = case.expected_number();
-            let mut pair = Pair::new(random, case.image, case.numbers);
+            let mut pair = Pair::new(random, case.image, case.numbers, self.writing);
             let place = Place { run, command };
             let answer = self.step(random, &mut pair, &case.command, Some(expected), place);
             if answer.is_some() {
@@ -215,11 +243,20 @@ impl Driver {
     ) -> Result<Answer, String> {
         let twin = some_twin(random, pair);
         let met = Met::by(pair.image(), pair.numbers());
+        let said = pair.said(command);
         let answer = pair.step(random, command)?;
         let (call, number) = (Call::of(command), answer.number());
         let stated = pair.numbers().stated();
         let tally = self.counts.of(stated);
         tally.call(command, &answer, met);
+        tally.lists(Made {
+            command,
+            number,
+            tracks: met.tracks,
+            said,
+            changed: pair.changed(),
+            history: pair.has_history(),
+        });
         match first_to_apply(stated, expected) {
             Some(first) if first != number => {
                 return Err(wrongly_first(number, first));
@@ -228,7 +265,8 @@ impl Driver {
         }
         if let Some(twin) = twin {
             tally.twin(call, number);
-            if let Some(text) = twin.fault(random, command, answer.clone(), pair.image()) {
+            let (writing, image) = (pair.writing(), pair.image());
+            if let Some(text) = twin.fault(random, writing, command, answer.clone(), image) {
                 return Err(text);
             }
         }
@@ -310,15 +348,100 @@ pub fn small_file_command(random: &mut Random, image: &[u8], kind: Kind) -> Comm
     };
     match random.below(8) {
         0 | 1 => any_command(random, image, kind),
-        2..=4 => Command::Delete { name },
-        _ => Command::Save {
+        2..=4 => Command::Delete {
             name,
-            page: 1,
-            start: 0x4000,
-            transfer: 0x4000,
-            sheet: vec![random.byte(); random.pick(&[1, 200, 245, 246])],
+            writes: some_room(random, 3),
+        },
+        _ => {
+            let (sectors, length) = random.pick(&[(1, 1), (1, 200), (1, 245), (2, 246)]);
+            Command::Save {
+                name,
+                page: 1,
+                start: 0x4000,
+                transfer: 0x4000,
+                sheet: vec![random.byte(); length],
+                writes: some_room(random, sectors + 2),
+            }
+        }
+    }
+}
+
+/// Mostly of standing files, with buffers that fit their lists in every way.
+fn listing_command(random: &mut Random, image: &[u8], kind: Kind) -> Command {
+    let standing = standing_names(image, kind.sectors(), kind.arrangement());
+    if standing.is_empty() || random.one_in(4) {
+        return any_command(random, image, kind);
+    }
+    let name = standing[random.below(standing.len())].clone();
+    match random.below(5) {
+        0 => Command::Delete {
+            name,
+            writes: any_room(random, 3),
+        },
+        1 => Command::Protect {
+            name,
+            on: random.below(2) as u32,
+            writes: any_room(random, 1),
+        },
+        2 => Command::Save {
+            name: fresh_name(random),
+            page: 0,
+            start: 0x2000,
+            transfer: 0x2000,
+            sheet: random.bytes(200),
+            writes: any_room(random, 3),
+        },
+        _ => Command::Rename {
+            old: name,
+            new: fresh_name(random),
+            writes: any_room(random, 1),
         },
     }
+}
+
+/// None, too short by any number of bytes or by one, exact, or longer.
+fn any_room(random: &mut Random, writes: usize) -> Buffer {
+    let exact = list_length(writes);
+    let length = match random.below(6) {
+        0 => 0,
+        1 => random.below(exact),
+        2 => exact - 1,
+        3 => exact + random.between(1, RECORD),
+        _ => exact,
+    };
+    Buffer {
+        length,
+        fill: random.byte(),
+    }
+}
+
+/// For a list of so many writes, or of one more, and mostly for both; sometimes
+/// a byte shorter.
+pub fn some_room(random: &mut Random, writes: usize) -> Buffer {
+    let exact = list_length(writes);
+    let one_more = exact + RECORD;
+    let longer = one_more + random.below(RECORD);
+    let length = match random.below(12) {
+        0 => exact - 1,
+        1 | 2 => exact,
+        3..=5 => one_more - 1,
+        6 | 7 => one_more,
+        _ => longer,
+    };
+    Buffer {
+        length,
+        fill: random.byte(),
+    }
+}
+
+/// A replay of a list of any sort, or what the second program draws for a run
+/// with replays.
+fn replay_command(random: &mut Random, image: &[u8], kind: Kind, replays: &mut Replays) -> Command {
+    if random.one_in(2) {
+        let writes = Target::new(image, kind).any_list(random);
+        return Command::Replay { writes };
+    }
+    replays.command(random, image, kind.sectors(), kind.arrangement())
 }
 
 /// Often of modules as long as there are any, under few names, or a blank disc.
@@ -337,10 +460,18 @@ fn largest_disc_command(random: &mut Random, image: &[u8], kind: Kind) -> Comman
             start: 0,
             transfer: random.draw() as u16,
             sheet: random.bytes(LONGEST),
+            writes: Buffer {
+                length: LONGEST_LIST - random.pick(&[0, 0, 0, 1, RECORD]),
+                fill: random.byte(),
+            },
         },
         4..=6 => Command::Read { name, buffer },
         7 => Command::List { buffer },
-        8 => Command::Rename { old: name, new },
+        8 => Command::Rename {
+            old: name,
+            new,
+            writes: some_room(random, 1),
+        },
         _ => any_command(random, image, kind),
     }
 }

@@ -4,11 +4,13 @@
 //! and the arguments are made for those asked for. So the answer is known
 //! without either program: the first of them in the call's order.
 
-use crate::calls::{Call, SIZE};
+use crate::calls::{Call, BAD_LIST, SHORT, SIZE};
 use crate::discs::{self, blank, free_count};
 use crate::kind::{Kind, Numbers, Stated};
+use crate::list_case::{Fault, Target};
 use reference::command::{Buffer, Command};
 use reference::generate::{break_rule, capacity, fresh_name, illegal_name, Random};
+use reference::writes_book::list_length;
 
 /// One case in so many states no kind of disc.
 const NO_KIND_IN: usize = 3;
@@ -136,8 +138,9 @@ impl Disc {
             assert_eq!(discs::save(image, kind, name, &random.bytes(length)), 0);
         }
         let (sectors, arrangement) = (kind.sectors(), kind.arrangement());
-        let number = reference::protect(image, sectors, arrangement, &self.protected, 1);
-        assert_eq!(number, 0);
+        let (name, writes) = (&self.protected, &mut [0; 260]);
+        let filled = reference::protect(image, sectors, arrangement, name, 1, writes);
+        assert_eq!(filled.number, 0);
         // Bytes 11 and 12 of the third slot point to the file's first sector,
         // whose byte 2 is the header's mark.
         let slot = discs::blank_directory(image, kind) + 3 + 2 * 16;
@@ -157,22 +160,25 @@ impl Disc {
             Call::Check => Command::Check,
             Call::List => Command::List {
                 // Three files and the disc take 54 bytes.
-                buffer: lent(random, if has(10) { 0..54 } else { 67..200 }),
+                buffer: lent(random, if has(SHORT) { 0..54 } else { 67..200 }),
             },
             Call::Read => self.read(random, has),
             Call::Save => self.save(random, has),
             Call::Delete => Command::Delete {
                 name: self.old_name(random, has),
+                writes: room(random, 3, has(SHORT)),
             },
             Call::Rename => self.rename(random, has),
             Call::Protect => Command::Protect {
                 name: self.old_name(random, has),
                 on: random.below(2) as u32,
+                writes: room(random, 1, has(SHORT)),
             },
             Call::Blank => Command::Blank {
                 name: disc_name(random, has(2)),
             },
             Call::View => view(random, self.kind, has(11)),
+            Call::Replay => self.replay(random, has(BAD_LIST)),
         }
     }
 
@@ -199,7 +205,7 @@ impl Disc {
     /// No answer is of no bytes, so an empty buffer holds none.
     fn read(&self, random: &mut Random, has: &impl Fn(u32) -> bool) -> Command {
         let name = self.old_name(random, has);
-        let lengths = match (has(10), name == self.plain) {
+        let lengths = match (has(SHORT), name == self.plain) {
             (false, _) => MOST_PLAIN..MOST_PLAIN + 9,
             (true, false) => 0..1,
             (true, true) => 0..self.plain_length,
@@ -229,6 +235,8 @@ impl Disc {
             start: start as u16,
             transfer: random.draw() as u16,
             sheet: random.bytes(length),
+            // The files leave slots free, so the directory does not grow.
+            writes: room(random, sectors_for(length) + 2, has(SHORT)),
         }
     }
 
@@ -247,7 +255,20 @@ impl Disc {
         } else {
             self.old_name(random, &old_is_legal)
         };
-        Command::Rename { old, new }
+        let writes = room(random, 1, has(SHORT));
+        Command::Rename { old, new, writes }
+    }
+
+    fn replay(&self, random: &mut Random, bad: bool) -> Command {
+        let target = Target::new(&self.image, self.kind);
+        let faults: Vec<Fault> = Fault::all().collect();
+        let fault = random.pick(&faults);
+        let writes = if bad {
+            target.bad_list(random, fault)
+        } else {
+            target.good_list(random)
+        };
+        Command::Replay { writes }
     }
 }
 
@@ -266,6 +287,27 @@ fn lent(random: &mut Random, lengths: std::ops::Range<usize>) -> Buffer {
         length: random.between(lengths.start, lengths.end - 1),
         fill: random.byte(),
     }
+}
+
+/// For a list of so many writes: too short, or long enough.
+fn room(random: &mut Random, writes: usize, short: bool) -> Buffer {
+    let exact = list_length(writes);
+    match random.below(3) {
+        0 if short => lent(random, 0..1),
+        1 if short => lent(random, exact - 1..exact),
+        _ if short => lent(random, 0..exact),
+        0 => lent(random, exact..exact + 1),
+        _ => lent(random, exact + 1..exact + 300),
+    }
+}
+
+/// The sectors of a module, of which there is none without bytes.
+fn sectors_for(length: usize) -> usize {
+    let mut sectors = 1;
+    while capacity(sectors) < length {
+        sectors += 1;
+    }
+    sectors
 }
 
 fn disc_name(random: &mut Random, illegal: bool) -> Vec<u8> {

@@ -5,6 +5,7 @@ mod report;
 
 use crate::calls::{Call, SIZE};
 use crate::kind::{Kind, Stated};
+use crate::list_tally::{ListTally, Made};
 use crate::met::{Met, Size};
 use reference::command::{Answer, Command};
 use std::collections::BTreeMap;
@@ -39,6 +40,7 @@ pub struct Tally {
     twins: BTreeMap<Call, u64>,
     refused_twins: u64,
     pub moments: u64,
+    lists: ListTally,
 }
 
 impl Tally {
@@ -58,6 +60,7 @@ impl Tally {
             twins: BTreeMap::new(),
             refused_twins: 0,
             moments: 0,
+            lists: ListTally::default(),
         }
     }
 
@@ -105,6 +108,14 @@ impl Tally {
             Answer::Checked(checked) => *self.rules.entry(checked.rule).or_default() += 1,
             Answer::Read(reading, _) => self.longest += u64::from(reading.length == LONGEST),
             _ => {}
+        }
+    }
+
+    /// Counts what a command shows of the lists of writes; nothing where no kind
+    /// of disc is stated.
+    pub fn lists(&mut self, made: Made<'_>) {
+        if let Stated::Kind(kind) = self.stated {
+            self.lists.command(made, kind);
         }
     }
 
@@ -186,6 +197,7 @@ impl Tally {
         ] {
             missing.extend((count == 0).then(|| name.to_string()));
         }
+        missing.extend(self.lists.missing());
         missing
     }
 }
@@ -236,6 +248,7 @@ mod tests {
             longest: 1,
             after_last: 1,
             moments: 1,
+            lists: ListTally::full(),
             ..tally
         }
     }
@@ -262,6 +275,7 @@ mod tests {
         tally.longest = 0;
         tally.after_last = 0;
         tally.moments = 0;
+        tally.lists = ListTally::default();
         let expected = [
             "read answering 9",
             "rename with 6 and 5",
@@ -276,7 +290,9 @@ mod tests {
             "a view of the sector after the last",
             "moments of demand 3",
         ];
-        assert_eq!(tally.missing(), expected);
+        let (of_calls, of_lists) = (expected.len(), tally.lists.missing());
+        assert_eq!(tally.missing()[..of_calls], expected);
+        assert_eq!(tally.missing()[of_calls..], of_lists);
     }
 
     #[test]

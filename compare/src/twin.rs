@@ -8,6 +8,7 @@ use crate::difference::{between_answers, between_images};
 use crate::kind::{Kind, Numbers};
 use crate::lend::Lent;
 use crate::library::{self, beside};
+use crate::writing::Writing;
 use reference::command::{Answer, Command};
 use reference::generate::Random;
 
@@ -41,12 +42,13 @@ impl Twin {
     pub fn fault(
         mut self,
         random: &mut Random,
+        writing: Writing,
         command: &Command,
         answer: Answer,
         image: &[u8],
     ) -> Option<String> {
         let numbers = self.kind.numbers();
-        let outcome = library::run(random, command, numbers, &mut self.image);
+        let outcome = library::run(random, writing, command, numbers, &mut self.image);
         let expected = rearranged(image, self.of, self.kind)?;
         outcome
             .stray_write
@@ -73,6 +75,9 @@ fn placeless(answer: Answer) -> Answer {
 mod tests {
     use super::*;
     use crate::discs;
+    use crate::writing::OF_LIBRARY;
+    use reference::command::Buffer;
+    use reference::Filled;
 
     const TENS: [Kind; 2] = [Kind::Ten, Kind::Moved];
 
@@ -93,7 +98,7 @@ mod tests {
     ) -> Option<String> {
         let mut random = Random::new(10);
         let twin = Twin::new(&mut random, before, kind.numbers()).expect("a right length");
-        twin.fault(&mut random, command, answer, image)
+        twin.fault(&mut random, OF_LIBRARY, command, answer, image)
     }
 
     #[test]
@@ -104,13 +109,25 @@ mod tests {
             start: 0x2000,
             transfer: 0x2000,
             sheet: vec![7; 300],
+            writes: Buffer {
+                length: 4 * 259 + 1,
+                fill: 9,
+            },
         };
         for kind in TENS {
             let (before, image, answer) = run(&save, kind);
             let told = |answer, image: &[u8]| fault(&save, kind, &before, answer, image);
             assert_eq!(told(answer.clone(), &image), None);
             assert!(told(Answer::Number(8), &image).is_some());
-            assert!(told(answer, &before).is_some());
+            assert!(told(answer.clone(), &before).is_some());
+            // Track and sector of the second record.
+            for at in [260, 261] {
+                let mut other = answer.clone();
+                if let Answer::Wrote(Filled { number: 0, .. }, list) = &mut other {
+                    list[at] += 1;
+                }
+                assert!(told(other, &image).is_some());
+            }
         }
     }
 

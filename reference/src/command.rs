@@ -1,6 +1,6 @@
 //! A command with its arguments as handed in, and what it answers.
 
-use crate::{Checked, Listed, Reading};
+use crate::{Checked, Filled, Reading};
 
 /// A lent buffer before the call: `length` times the byte `fill`.
 #[derive(Debug, Clone, Copy, PartialEq, Eq)]
@@ -31,17 +31,21 @@ pub enum Command {
         start: u16,
         transfer: u16,
         sheet: Vec<u8>,
+        writes: Buffer,
     },
     Delete {
         name: Vec<u8>,
+        writes: Buffer,
     },
     Rename {
         old: Vec<u8>,
         new: Vec<u8>,
+        writes: Buffer,
     },
     Protect {
         name: Vec<u8>,
         on: u32,
+        writes: Buffer,
     },
     Blank {
         name: Vec<u8>,
@@ -49,6 +53,10 @@ pub enum Command {
     View {
         track: u32,
         sector: u32,
+    },
+    /// None of demand 3's commands: after one that is accepted it starts anew.
+    Replay {
+        writes: Vec<u8>,
     },
 }
 
@@ -58,7 +66,9 @@ pub enum Command {
 pub enum Answer {
     Number(u32),
     Checked(Checked),
-    Listed(Listed, Vec<u8>),
+    Listed(Filled, Vec<u8>),
+    /// Of save, delete, rename and protect: the list of writes is in the buffer.
+    Wrote(Filled, Vec<u8>),
     Read(Reading, Vec<u8>),
     Viewed {
         number: u32,
@@ -72,7 +82,7 @@ impl Answer {
         match self {
             Answer::Number(number) | Answer::Viewed { number, .. } => *number,
             Answer::Checked(checked) => checked.number,
-            Answer::Listed(listed, _) => listed.number,
+            Answer::Listed(filled, _) | Answer::Wrote(filled, _) => filled.number,
             Answer::Read(reading, _) => reading.number,
         }
     }
@@ -102,12 +112,43 @@ impl Command {
                 start: crate::view_start(image, sectors, arrangement, *track, *sector),
                 bytes: crate::view(image, sectors, arrangement, *track, *sector).to_vec(),
             },
-            writing => Answer::Number(writing.run_writing(image, sectors, arrangement)),
+            Command::Blank { name } => {
+                Answer::Number(crate::blank(image, sectors, arrangement, name))
+            }
+            Command::Replay { writes } => {
+                Answer::Number(crate::replay(image, sectors, arrangement, writes))
+            }
+            Command::Save { writes, .. }
+            | Command::Delete { writes, .. }
+            | Command::Rename { writes, .. }
+            | Command::Protect { writes, .. } => {
+                let mut lent = writes.lend();
+                let filled = self.run_writing(image, sectors, arrangement, &mut lent);
+                Answer::Wrote(filled, lent)
+            }
         }
     }
 
-    /// The commands that may change the image; the others leave it and give 0.
-    fn run_writing(&self, image: &mut [u8], sectors: u32, arrangement: u32) -> u32 {
+    /// The buffer that a command is lent for its list of writes, if it lists any.
+    pub fn lent_for_writes(&self) -> Option<Buffer> {
+        match self {
+            Command::Save { writes, .. }
+            | Command::Delete { writes, .. }
+            | Command::Rename { writes, .. }
+            | Command::Protect { writes, .. } => Some(*writes),
+            _ => None,
+        }
+    }
+
+    /// The commands that list their writes. No other gets here; it would leave
+    /// the image and the buffer.
+    fn run_writing(
+        &self,
+        image: &mut [u8],
+        sectors: u32,
+        arrangement: u32,
+        lent: &mut [u8],
+    ) -> Filled {
         match self {
             Command::Save {
                 name,
@@ -115,6 +156,7 @@ impl Command {
                 start,
                 transfer,
                 sheet,
+                ..
             } => crate::save(
                 image,
                 sectors,
@@ -124,14 +166,19 @@ impl Command {
                 *start,
                 *transfer,
                 sheet,
+                lent,
             ),
-            Command::Delete { name } => crate::delete(image, sectors, arrangement, name),
-            Command::Rename { old, new } => crate::rename(image, sectors, arrangement, old, new),
-            Command::Protect { name, on } => crate::protect(image, sectors, arrangement, name, *on),
-            Command::Blank { name } => crate::blank(image, sectors, arrangement, name),
-            Command::Check | Command::List { .. } | Command::Read { .. } | Command::View { .. } => {
-                0
+            Command::Delete { name, .. } => crate::delete(image, sectors, arrangement, name, lent),
+            Command::Rename { old, new, .. } => {
+                crate::rename(image, sectors, arrangement, old, new, lent)
             }
+            Command::Protect { name, on, .. } => {
+                crate::protect(image, sectors, arrangement, name, *on, lent)
+            }
+            _ => Filled {
+                number: 0,
+                length: 0,
+            },
         }
     }
 }

@@ -7,6 +7,7 @@ use crate::disc::{Address, Disc, DiscMut, Sector, DISC_NAME, FREE_COUNT, LINK_BY
 use crate::module::{copy_bytes, plain_header};
 use crate::name::{Name, NAME_BYTES};
 use crate::refusal::Refusal;
+use crate::writes::WriteList;
 use crate::Reading;
 use std::ops::Range;
 
@@ -20,6 +21,11 @@ const FILE_RECORD: u8 = 2;
 const FILE_RECORD_BYTES: usize = 13;
 const END_RECORD: u8 = 0;
 const END_RECORD_BYTES: usize = 1;
+
+/// The directory sector, the file's last sector and the system sector.
+const WRITES_OF_DELETE: usize = 3;
+/// Rename and protect write the entry's directory sector.
+const WRITES_OF_ENTRY: usize = 1;
 
 /// Gives the length of the records written.
 pub fn list(disc: Disc<'_>, buffer: &mut [u8]) -> Result<usize, Refusal> {
@@ -58,37 +64,57 @@ pub fn read(disc: Disc<'_>, name: &[u8], buffer: &mut [u8]) -> Result<Reading, R
     })
 }
 
-pub fn delete(mut disc: DiscMut<'_>, name: &[u8]) -> Result<(), Refusal> {
+/// Gives the length of the list of writes, as rename and protect do.
+pub fn delete(mut disc: DiscMut<'_>, name: &[u8], writes: &mut [u8]) -> Result<usize, Refusal> {
     let before = disc.now();
     let (slot, entry) = find_typed(before, name)?;
     refuse_protected(&entry)?;
     let last = before.locate(entry.last).ok_or(Refusal::Unsound)?;
+    let mut list = WriteList::lent(writes, WRITES_OF_DELETE)?;
     let freed = usize::from(entry.length);
     let old_free_pointer = before.free_pointer().or_zeros();
     let free_count = before.free_count() + freed;
     let used_count = before.used_count() - freed;
     directory::clear_slot(&mut disc, slot);
+    list.add(disc.now(), slot.sector);
     disc.put_link(last, old_free_pointer);
+    list.add(disc.now(), last);
     disc.put_free_pointer(entry.first);
     disc.put_counts(free_count, used_count);
-    Ok(())
+    list.add(disc.now(), Sector::SYSTEM);
+    Ok(list.end())
 }
 
-pub fn rename(mut disc: DiscMut<'_>, old: &[u8], new: &[u8]) -> Result<(), Refusal> {
+pub fn rename(
+    mut disc: DiscMut<'_>,
+    old: &[u8],
+    new: &[u8],
+    writes: &mut [u8],
+) -> Result<usize, Refusal> {
     let new = Name::of_file(new).ok_or(Refusal::Name)?;
     let (slot, entry) = find_typed(disc.now(), old)?;
     refuse_protected(&entry)?;
     if directory::find(disc.now(), new).is_some() {
         return Err(Refusal::Taken);
     }
+    let mut list = WriteList::lent(writes, WRITES_OF_ENTRY)?;
     slot.put_name(&mut disc, new);
-    Ok(())
+    list.add(disc.now(), slot.sector);
+    Ok(list.end())
 }
 
-pub fn protect(mut disc: DiscMut<'_>, name: &[u8], on: u32) -> Result<(), Refusal> {
+/// The directory sector is listed even if its byte stood so before.
+pub fn protect(
+    mut disc: DiscMut<'_>,
+    name: &[u8],
+    on: u32,
+    writes: &mut [u8],
+) -> Result<usize, Refusal> {
     let (slot, _) = find_typed(disc.now(), name)?;
+    let mut list = WriteList::lent(writes, WRITES_OF_ENTRY)?;
     slot.put_attribute(&mut disc, if on == 0 { UNPROTECTED } else { PROTECTED });
-    Ok(())
+    list.add(disc.now(), slot.sector);
+    Ok(list.end())
 }
 
 pub fn blank(mut disc: DiscMut<'_>, name: &[u8]) -> Result<(), Refusal> {

@@ -13,6 +13,7 @@ mod discs;
 mod files;
 mod names;
 mod random;
+mod replays;
 mod sheets;
 
 pub use commands::{command, command_list};
@@ -21,6 +22,7 @@ pub use discs::{sound_disc, sound_disc_of};
 pub use files::capacity;
 pub use names::{fresh_name, illegal_name, standing_names, typed_form};
 pub use random::Random;
+pub use replays::Replays;
 pub use sheets::{edge_sheet, good_sheet, spoil, table, totals_run, wrong_table};
 pub use sheets::{Spoil, TotalsRun};
 

@@ -5,13 +5,18 @@
 //! sectors a track and one arrangement throughout: the book is told both at the
 //! start and keeps them.
 
-use crate::command::Command;
+use crate::command::{Answer, Buffer, Command};
 use crate::disc::{word, Disc, Sector, FREE_COUNT};
 use crate::generate::typed_form;
-use crate::{check, list, read, save, Reading};
+use crate::writes_book::{list_fault, list_length};
+use crate::{check, list, read, save, Filled, Reading};
 
 const SLOTS_PER_DIRECTORY_SECTOR: usize = 15;
 const WHOLE_PAGE: usize = 65_536;
+/// What lent buffers hold before a call.
+const FILL: u8 = 0xA5;
+/// What the sheets of tried saves are made of.
+const SHEET: u8 = 7;
 
 /// A program whose calls the claims of the book speak of.
 pub trait Program {
@@ -35,7 +40,8 @@ pub trait Program {
         start: u16,
         transfer: u16,
         sheet: &[u8],
-    ) -> u32;
+        writes: &mut [u8],
+    ) -> Filled;
 }
 
 /// The calls of this crate.
@@ -64,7 +70,8 @@ impl Program for Reference {
         start: u16,
         transfer: u16,
         sheet: &[u8],
-    ) -> u32 {
+        writes: &mut [u8],
+    ) -> Filled {
         save(
             image,
             sectors,
@@ -74,6 +81,7 @@ impl Program for Reference {
             start,
             transfer,
             sheet,
+            writes,
         )
     }
 }
@@ -162,7 +170,38 @@ impl Book {
         module_sectors(length) + usize::from(full)
     }
 
-    /// Enters a command. A refused one changes nothing.
+    /// How many sectors a save of `length` bytes lists: the system sector, the
+    /// module's, and one directory sector or, where the need has one for a new
+    /// directory sector, two.
+    pub fn writes_of_save(&self, length: usize) -> usize {
+        self.need(length) + 2
+    }
+
+    /// The answer due to a save, lent so many bytes for its list, that nothing
+    /// but room can refuse.
+    pub fn save_due(&self, length: usize, lent: usize) -> Filled {
+        if self.need(length) > self.free() {
+            refused_filling(8)
+        } else {
+            listing_due(self.writes_of_save(length), lent)
+        }
+    }
+
+    /// The answer due to a command that lists its writes, unless a refusal other
+    /// than 8 and 10 applies; nothing for any other command.
+    pub fn due(&self, command: &Command) -> Option<Filled> {
+        let lent = command.lent_for_writes()?.length;
+        Some(match command {
+            Command::Save { sheet, .. } => self.save_due(sheet.len(), lent),
+            // Directory sector, last sector, system sector.
+            Command::Delete { .. } => listing_due(3, lent),
+            // The entry's directory sector.
+            _ => listing_due(1, lent),
+        })
+    }
+
+    /// Enters a command. A refused one changes nothing, and neither does a
+    /// replay: after an accepted one the book is over (see `History`).
     pub fn record(&mut self, command: &Command, accepted: bool) {
         if !accepted {
             return;
@@ -174,12 +213,13 @@ impl Book {
                 start,
                 transfer,
                 sheet,
+                ..
             } => self.add(name, *page, (*start, *transfer), sheet),
-            Command::Delete { name } => {
+            Command::Delete { name, .. } => {
                 let gone = stored(name);
                 self.files.retain(|file| file.name != gone);
             }
-            Command::Rename { old, new } => {
+            Command::Rename { old, new, .. } => {
                 let old = stored(old);
                 for file in self.files.iter_mut().filter(|file| file.name == old) {
                     file.name = stored(new);
@@ -190,7 +230,8 @@ impl Book {
             | Command::List { .. }
             | Command::Read { .. }
             | Command::Protect { .. }
-            | Command::View { .. } => {}
+            | Command::View { .. }
+            | Command::Replay { .. } => {}
         }
     }
 
@@ -220,6 +261,56 @@ impl Book {
     }
 }
 
+/// The book of a run with replays. After an accepted one, and as long as the
+/// image was never sound, the next sound image is a new start.
+#[derive(Debug, Clone, PartialEq, Eq)]
+pub struct History {
+    sectors: u32,
+    arrangement: u32,
+    book: Option<Book>,
+}
+
+impl History {
+    pub fn start(image: &[u8], sectors: u32, arrangement: u32) -> History {
+        History {
+            sectors,
+            arrangement,
+            book: Book::start(image, sectors, arrangement),
+        }
+    }
+
+    /// None while demand 3 is silent.
+    pub fn book(&self) -> Option<&Book> {
+        self.book.as_ref()
+    }
+
+    /// Enters a command. The image as it left it is looked at only for a start.
+    pub fn record(&mut self, command: &Command, accepted: bool, image: &[u8]) {
+        let replayed = accepted && matches!(command, Command::Replay { .. });
+        match &mut self.book {
+            Some(book) if !replayed => book.record(command, accepted),
+            _ => self.book = Book::start(image, self.sectors, self.arrangement),
+        }
+    }
+}
+
+/// The answer to a command of so many writes that only 10 can refuse.
+fn listing_due(writes: usize, lent: usize) -> Filled {
+    let length = list_length(writes);
+    if lent < length {
+        refused_filling(10)
+    } else {
+        Filled {
+            number: 0,
+            length: length as u32,
+        }
+    }
+}
+
+fn refused_filling(number: u32) -> Filled {
+    Filled { number, length: 0 }
+}
+
 /// The module formula, as the document words it.
 fn module_sectors(length: usize) -> usize {
     if length <= 245 {
@@ -230,7 +321,7 @@ fn module_sectors(length: usize) -> usize {
 }
 
 /// The nine bytes of a name that a command accepted.
-fn stored(typed: &[u8]) -> [u8; 9] {
+pub(crate) fn stored(typed: &[u8]) -> [u8; 9] {
     let mut parts = typed.split(|&byte| byte == b'.');
     let mut name = [b' '; 9];
     for (at, part) in [0, 6].into_iter().zip(&mut parts) {
@@ -267,13 +358,13 @@ fn file_at_start(image: &[u8], sectors: u32, arrangement: u32, record: &[u8]) ->
 }
 
 /// A pointer's track and sector, which stand sector first.
-fn pointer(sector: &[u8], at: usize) -> (u8, u8) {
+pub(crate) fn pointer(sector: &[u8], at: usize) -> (u8, u8) {
     (sector[at + 1], sector[at])
 }
 
 /// The sector numbers from a track and sector to the end link; nothing if the
 /// chain leaves the disc or is longer than it.
-fn follow(disc: Disc<'_>, head: (u8, u8)) -> Option<Vec<usize>> {
+pub(crate) fn follow(disc: Disc<'_>, head: (u8, u8)) -> Option<Vec<usize>> {
     let mut met = Vec::new();
     let (mut track, mut sector) = head;
     while sector != 0 {
@@ -351,17 +442,23 @@ pub fn places_fault(image: &[u8], book: &Book) -> Option<String> {
 
 /// The first sector's track and sector of each entry, in directory order.
 fn file_heads(disc: Disc<'_>, directory: &[usize]) -> Vec<(u8, u8)> {
-    let slots = directory.iter().flat_map(|&number| {
-        let sector = disc.sector(Sector::numbered(number));
-        sector[3..243].chunks_exact(16)
-    });
-    slots
-        .filter(|&slot| slot != [0; 16])
+    directory
+        .iter()
+        .flat_map(|&number| slots_in_use(disc, number))
         .map(|slot| pointer(slot, 11))
         .collect()
 }
 
-/// A save of a new name is accepted exactly when its need is within the sum.
+/// The slots of a directory sector that aren't free.
+pub(crate) fn slots_in_use(disc: Disc<'_>, number: usize) -> impl Iterator<Item = &[u8]> {
+    let sector = disc.sector(Sector::numbered(number));
+    sector[3..243]
+        .chunks_exact(16)
+        .filter(|&slot| slot != [0; 16])
+}
+
+/// A save of a new name is accepted exactly when its need is within the sum and
+/// its list within the lent buffer.
 fn room_fault(program: &impl Program, image: &[u8], book: &Book) -> Option<String> {
     let name = absent_names(book).next()?;
     let free = book.free();
@@ -373,14 +470,79 @@ fn room_fault(program: &impl Program, image: &[u8], book: &Book) -> Option<Strin
     lengths
         .into_iter()
         .filter(|&length| length <= WHOLE_PAGE)
-        .find_map(|length| {
-            let (mut copy, sheet) = (image.to_vec(), vec![7; length]);
-            let (sectors, arrangement) = (book.sectors, book.arrangement);
-            let answer = program.save(&mut copy, sectors, arrangement, &name, 0, 0, 0, &sheet);
-            let expected = if book.need(length) <= free { 0 } else { 8 };
-            (answer != expected)
-                .then(|| format!("save of {length} bytes with {free} free: {answer}"))
+        .find_map(|length| room_for_fault(program, image, book, &name, length))
+}
+
+/// Tries a save with buffers of several lengths. Those that are too short come
+/// first and leave the image as it is for the next.
+fn room_for_fault(
+    program: &impl Program,
+    image: &[u8],
+    book: &Book,
+    name: &[u8],
+    length: usize,
+) -> Option<String> {
+    let mut copy = image.to_vec();
+    let list = list_length(book.writes_of_save(length));
+    [0, list - 1, list + length % 3]
+        .into_iter()
+        .find_map(|lent| {
+            let answer = tried_save(program, &mut copy, book, name, (length, lent));
+            let (number, due) = (answer.number(), book.save_due(length, lent).number);
+            let command = Command::Save {
+                name: name.to_vec(),
+                page: 0,
+                start: 0,
+                transfer: 0,
+                sheet: vec![SHEET; length],
+                writes: Buffer {
+                    length: lent,
+                    fill: FILL,
+                },
+            };
+            (number != due)
+                .then(|| format!("save of {length} bytes, {lent} lent: {number}, not {due}"))
+                .or_else(|| answer_fault(book, &command, &answer, (image, &copy)))
         })
+}
+
+fn tried_save(
+    program: &impl Program,
+    image: &mut [u8],
+    book: &Book,
+    name: &[u8],
+    (length, lent): (usize, usize),
+) -> Answer {
+    let (sectors, arrangement) = (book.sectors, book.arrangement);
+    let (sheet, mut buffer) = (vec![SHEET; length], vec![FILL; lent]);
+    let lent = &mut buffer;
+    let filled = program.save(image, sectors, arrangement, name, 0, 0, 0, &sheet, lent);
+    Answer::Wrote(filled, buffer)
+}
+
+/// What the answer of a command that lists its writes lacks, by the book as it
+/// was before the command, and by the image before and after it.
+pub fn answer_fault(
+    book: &Book,
+    command: &Command,
+    answer: &Answer,
+    (old, new): (&[u8], &[u8]),
+) -> Option<String> {
+    let (filled, buffer) = match answer {
+        Answer::Wrote(filled, buffer) => (*filled, buffer),
+        _ => return None,
+    };
+    let (due, lent) = (book.due(command)?, command.lent_for_writes()?);
+    let (list, rest) = buffer.split_at(buffer.len().min(filled.length as usize));
+    if buffer.len() != lent.length || rest.iter().any(|&byte| byte != lent.fill) {
+        Some("the rest of the buffer is changed".to_string())
+    } else if matches!(filled.number, 0 | 8 | 10) && filled != due {
+        Some(format!("{filled:?} is answered, not {due:?}"))
+    } else if filled.number == 0 {
+        list_fault(command, (book.sectors, book.arrangement), (old, new), list)
+    } else {
+        (filled.length != 0 || old != new).then(|| format!("refused, but {filled:?} or a write"))
+    }
 }
 
 /// Every file in the book reads as the book says.
@@ -404,7 +566,6 @@ fn reading_fault(
     file: &StandingFile,
     lent: usize,
 ) -> Option<String> {
-    const FILL: u8 = 0xA5;
     let mut buffer = vec![FILL; lent];
     let typed = typed_form(&file.name);
     let answer = program.read(image, book.sectors, book.arrangement, &typed, &mut buffer);

@@ -25,6 +25,8 @@ mod refusal;
 mod save;
 mod totals;
 pub mod totals_book;
+mod writes;
+pub mod writes_book;
 
 use disc::{Disc, DiscMut};
 use refusal::Refusal;
@@ -37,9 +39,10 @@ pub struct Checked {
     pub rule: u32,
 }
 
-/// A list's answer: `length` bytes of records stand in the buffer.
+/// The answer of a list, or of a call that lists its writes: `length` bytes of
+/// records stand at the front of the buffer.
 #[derive(Debug, Clone, Copy, PartialEq, Eq)]
-pub struct Listed {
+pub struct Filled {
     pub number: u32,
     pub length: u32,
 }
@@ -70,18 +73,9 @@ pub fn check(image: &[u8], sectors: u32, arrangement: u32) -> Checked {
 }
 
 /// Writes the disc's and the files' records to the front of the buffer.
-pub fn list(image: &[u8], sectors: u32, arrangement: u32, buffer: &mut [u8]) -> Listed {
+pub fn list(image: &[u8], sectors: u32, arrangement: u32, buffer: &mut [u8]) -> Filled {
     let disc = Disc::open(image, sectors, arrangement);
-    match disc.and_then(|disc| commands::list(disc, buffer)) {
-        Ok(length) => Listed {
-            number: 0,
-            length: length as u32,
-        },
-        Err(refusal) => Listed {
-            number: refusal.number(),
-            length: 0,
-        },
-    }
+    filled(disc.and_then(|disc| commands::list(disc, buffer)))
 }
 
 /// Reads a file's load module, its bytes to the front of the buffer.
@@ -104,7 +98,7 @@ pub fn read(
     })
 }
 
-/// Saves a sheet of bytes as a new, unprotected file.
+/// Saves a sheet of bytes as a new, unprotected file, and lists the writes.
 #[allow(clippy::too_many_arguments)]
 pub fn save(
     image: &mut [u8],
@@ -115,48 +109,77 @@ pub fn save(
     start: u16,
     transfer: u16,
     sheet: &[u8],
-) -> u32 {
-    writing(image, sectors, arrangement, |disc| {
-        save::save(disc, name, page, start, transfer, sheet)
-    })
+    writes: &mut [u8],
+) -> Filled {
+    let disc = DiscMut::open(image, sectors, arrangement);
+    filled(disc.and_then(|disc| save::save(disc, name, page, start, transfer, sheet, writes)))
 }
 
-/// Deletes an unprotected file; its sectors go to the head of the free chain.
-pub fn delete(image: &mut [u8], sectors: u32, arrangement: u32, name: &[u8]) -> u32 {
-    writing(image, sectors, arrangement, |disc| {
-        commands::delete(disc, name)
-    })
+/// Deletes an unprotected file, and lists the writes; the file's sectors go to
+/// the head of the free chain.
+pub fn delete(
+    image: &mut [u8],
+    sectors: u32,
+    arrangement: u32,
+    name: &[u8],
+    writes: &mut [u8],
+) -> Filled {
+    let disc = DiscMut::open(image, sectors, arrangement);
+    filled(disc.and_then(|disc| commands::delete(disc, name, writes)))
 }
 
-/// Gives an unprotected file a name that does not stand yet.
-pub fn rename(image: &mut [u8], sectors: u32, arrangement: u32, old: &[u8], new: &[u8]) -> u32 {
-    writing(image, sectors, arrangement, |disc| {
-        commands::rename(disc, old, new)
-    })
+/// Gives an unprotected file a name that does not stand yet, and lists the
+/// write.
+pub fn rename(
+    image: &mut [u8],
+    sectors: u32,
+    arrangement: u32,
+    old: &[u8],
+    new: &[u8],
+    writes: &mut [u8],
+) -> Filled {
+    let disc = DiscMut::open(image, sectors, arrangement);
+    filled(disc.and_then(|disc| commands::rename(disc, old, new, writes)))
 }
 
-/// Protects a file, or with 0 lifts its protection.
-pub fn protect(image: &mut [u8], sectors: u32, arrangement: u32, name: &[u8], on: u32) -> u32 {
-    writing(image, sectors, arrangement, |disc| {
-        commands::protect(disc, name, on)
-    })
+/// Protects a file, or with 0 lifts its protection, and lists the write.
+pub fn protect(
+    image: &mut [u8],
+    sectors: u32,
+    arrangement: u32,
+    name: &[u8],
+    on: u32,
+    writes: &mut [u8],
+) -> Filled {
+    let disc = DiscMut::open(image, sectors, arrangement);
+    filled(disc.and_then(|disc| commands::protect(disc, name, on, writes)))
+}
+
+/// The answer of a call that fills a lent buffer.
+fn filled(outcome: Result<usize, Refusal>) -> Filled {
+    match outcome {
+        Ok(length) => Filled {
+            number: 0,
+            length: length as u32,
+        },
+        Err(refusal) => Filled {
+            number: refusal.number(),
+            length: 0,
+        },
+    }
+}
+
+/// Writes the sectors of a list of writes, in its order, to an image that need
+/// not be sound.
+pub fn replay(image: &mut [u8], sectors: u32, arrangement: u32, writes: &[u8]) -> u32 {
+    let disc = DiscMut::open(image, sectors, arrangement);
+    refusal::number(disc.and_then(|disc| writes::replay(disc, writes)))
 }
 
 /// Makes the whole image a blank data disc.
 pub fn blank(image: &mut [u8], sectors: u32, arrangement: u32, name: &[u8]) -> u32 {
-    writing(image, sectors, arrangement, |disc| {
-        commands::blank(disc, name)
-    })
-}
-
-/// The number of a command that may change the image and answers nothing else.
-fn writing(
-    image: &mut [u8],
-    sectors: u32,
-    arrangement: u32,
-    command: impl FnOnce(DiscMut<'_>) -> Result<(), Refusal>,
-) -> u32 {
-    refusal::number(DiscMut::open(image, sectors, arrangement).and_then(command))
+    let disc = DiscMut::open(image, sectors, arrangement);
+    refusal::number(disc.and_then(|disc| commands::blank(disc, name)))
 }
 
 /// The 254 bytes after a sector's link, in the image itself; empty if refused.

@@ -16,6 +16,7 @@ pub enum Refusal {
     NoSector = 11,
     BadSheet = 12,
     Total = 13,
+    BadList = 14,
 }
 
 impl Refusal {

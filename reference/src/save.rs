@@ -1,4 +1,5 @@
-//! Save: room is reckoned whole before the first byte is written.
+//! Save: room is reckoned whole, on the disc and in the lent buffer, before the
+//! first byte is written.
 
 use crate::check::require_sound;
 use crate::directory::{self, Entry, Slot, UNPROTECTED};
@@ -6,6 +7,7 @@ use crate::disc::{Address, Disc, DiscMut, Sector};
 use crate::module::{sectors_taken, write_sector, Header};
 use crate::name::Name;
 use crate::refusal::Refusal;
+use crate::writes::WriteList;
 
 /// What a save will take from the disc.
 struct Plan {
@@ -19,6 +21,16 @@ struct Plan {
     used_count: usize,
 }
 
+impl Plan {
+    /// How many sectors are written: the system sector, the file's, and the
+    /// entry's directory sector with the one that a new one is linked from.
+    fn writes(&self) -> usize {
+        1 + self.file.len() + 1 + usize::from(self.grows_from.is_some())
+    }
+}
+
+/// Gives the length of the list of writes. The sectors are written in the
+/// list's order, each once.
 pub fn save(
     mut disc: DiscMut<'_>,
     name: &[u8],
@@ -26,7 +38,8 @@ pub fn save(
     start: u16,
     transfer: u16,
     sheet: &[u8],
-) -> Result<(), Refusal> {
+    writes: &mut [u8],
+) -> Result<usize, Refusal> {
     let name = Name::of_file(name).ok_or(Refusal::Name)?;
     let header = Header::new(page, start, transfer, sheet.len()).ok_or(Refusal::Module)?;
     require_sound(disc.now())?;
@@ -34,11 +47,13 @@ pub fn save(
         return Err(Refusal::Taken);
     }
     let plan = plan(disc.now(), sheet.len()).ok_or(Refusal::Room)?;
-    write_file(&mut disc, &plan.file, &header, sheet);
-    write_entry(&mut disc, &plan, name);
+    let mut list = WriteList::lent(writes, plan.writes())?;
     disc.put_free_pointer(plan.free_pointer);
     disc.put_counts(plan.free_count, plan.used_count);
-    Ok(())
+    list.add(disc.now(), Sector::SYSTEM);
+    write_file(&mut disc, &plan.file, &header, sheet, &mut list);
+    write_entry(&mut disc, &plan, name, &mut list);
+    Ok(list.end())
 }
 
 /// Nothing if the free chain is shorter than the save needs.
@@ -68,7 +83,13 @@ fn plan(disc: Disc<'_>, length: usize) -> Option<Plan> {
     })
 }
 
-fn write_file(disc: &mut DiscMut<'_>, file: &[Sector], header: &Header, sheet: &[u8]) {
+fn write_file(
+    disc: &mut DiscMut<'_>,
+    file: &[Sector],
+    header: &Header,
+    sheet: &[u8],
+    list: &mut WriteList<'_>,
+) {
     let mut left = sheet;
     for (position, &sector) in file.iter().enumerate() {
         left = write_sector(disc.sector_mut(sector), position, header, left);
@@ -76,14 +97,13 @@ fn write_file(disc: &mut DiscMut<'_>, file: &[Sector], header: &Header, sheet: &
             .get(position + 1)
             .map_or(Address::END, |&next| disc.now().address(next));
         disc.put_link(sector, link);
+        list.add(disc.now(), sector);
     }
 }
 
-fn write_entry(disc: &mut DiscMut<'_>, plan: &Plan, name: Name) {
-    if let Some(last) = plan.grows_from {
-        let grown = disc.now().address(plan.slot.sector);
+fn write_entry(disc: &mut DiscMut<'_>, plan: &Plan, name: Name, list: &mut WriteList<'_>) {
+    if plan.grows_from.is_some() {
         disc.sector_mut(plan.slot.sector).fill(0);
-        disc.put_link(last, grown);
     }
     let entry = Entry {
         name,
@@ -93,4 +113,10 @@ fn write_entry(disc: &mut DiscMut<'_>, plan: &Plan, name: Name) {
         attribute: UNPROTECTED,
     };
     directory::fill_slot(disc, plan.slot, &entry);
+    list.add(disc.now(), plan.slot.sector);
+    if let Some(last) = plan.grows_from {
+        let grown = disc.now().address(plan.slot.sector);
+        disc.put_link(last, grown);
+        list.add(disc.now(), last);
+    }
 }

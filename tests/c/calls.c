@@ -6,9 +6,6 @@
 #include "lent.h"
 #include "report.h"
 
-/* What a call takes of a lent image. */
-#define ON(image) (image).bytes, (image).length, STATED
-
 struct stated stated = { TANDOS_TEN, TANDOS_PLAIN };
 uint8_t answer[BUFFER_MAX];
 
@@ -31,27 +28,6 @@ struct text bytes(const uint8_t *bytes, size_t length)
     text.bytes = bytes;
     text.length = length;
     return text;
-}
-
-static struct lent lend_disc(const struct disc *disc)
-{
-    static uint8_t image[DISC_MAX];
-
-    arrange(image, disc->bytes, disc->length, stated.arrangement);
-    return lend(image, disc->length);
-}
-
-static struct lent lend_text(struct text text)
-{
-    return lend(text.bytes, text.length);
-}
-
-/* Takes the image over that a call left, and with a refusal expects it kept. */
-static void take_back(const char *what, struct disc *disc, struct lent *image,
-                      uint32_t number)
-{
-    arrange_back(disc->bytes, image->bytes, disc->length, stated.arrangement);
-    expect_kept_beyond(number == TANDOS_DONE ? disc->length : 0, what, image);
 }
 
 /* The buffer's bytes before the call: neither zeros nor what a call writes. */
@@ -81,11 +57,11 @@ tandos_checked try_check(const struct disc *disc)
     return checked;
 }
 
-tandos_listed try_list(const struct disc *disc, size_t buffer_len)
+tandos_filled try_list(const struct disc *disc, size_t buffer_len)
 {
     struct lent image = lend_disc(disc);
     struct lent buffer = lend_buffer(buffer_len);
-    tandos_listed listed = tandos_list(ON(image), buffer.bytes, buffer.length);
+    tandos_filled listed = tandos_list(ON(image), buffer.bytes, buffer.length);
 
     expect_kept_beyond(0, "image after list", &image);
     take_buffer("buffer after list", &buffer,
@@ -121,60 +97,6 @@ tandos_reading try_read(const struct disc *disc, struct text name,
     if (reading.number != TANDOS_DONE)
         expect_zeros(&reading);
     return reading;
-}
-
-uint32_t try_save(struct disc *disc, struct text name, uint32_t page,
-                  uint16_t start, uint16_t transfer, struct text sheet)
-{
-    struct lent image = lend_disc(disc);
-    struct lent typed = lend_text(name);
-    struct lent module = lend_text(sheet);
-    uint32_t number =
-        tandos_save(ON(image), typed.bytes, typed.length, page, start,
-                    transfer, module.bytes, module.length);
-
-    take_back("image after save", disc, &image, number);
-    expect_kept_beyond(0, "name after save", &typed);
-    expect_kept_beyond(0, "sheet after save", &module);
-    return number;
-}
-
-uint32_t try_delete(struct disc *disc, struct text name)
-{
-    struct lent image = lend_disc(disc);
-    struct lent typed = lend_text(name);
-    uint32_t number = tandos_delete(ON(image), typed.bytes, typed.length);
-
-    take_back("image after delete", disc, &image, number);
-    expect_kept_beyond(0, "name after delete", &typed);
-    return number;
-}
-
-uint32_t try_rename(struct disc *disc, struct text old_name,
-                    struct text new_name)
-{
-    struct lent image = lend_disc(disc);
-    struct lent old_typed = lend_text(old_name);
-    struct lent new_typed = lend_text(new_name);
-    uint32_t number =
-        tandos_rename(ON(image), old_typed.bytes, old_typed.length,
-                      new_typed.bytes, new_typed.length);
-
-    take_back("image after rename", disc, &image, number);
-    expect_kept_beyond(0, "old name after rename", &old_typed);
-    expect_kept_beyond(0, "new name after rename", &new_typed);
-    return number;
-}
-
-uint32_t try_protect(struct disc *disc, struct text name, uint32_t on)
-{
-    struct lent image = lend_disc(disc);
-    struct lent typed = lend_text(name);
-    uint32_t number = tandos_protect(ON(image), typed.bytes, typed.length, on);
-
-    take_back("image after protect", disc, &image, number);
-    expect_kept_beyond(0, "name after protect", &typed);
-    return number;
 }
 
 uint32_t try_blank(struct disc *disc, struct text name)
@@ -254,7 +176,11 @@ struct arguments {
     const char *name, *new_name, *disc_name;
     uint32_t page, track, sector;
     size_t sheet_len, list_len, read_len;
+    struct text writes;
 };
+
+/* 0/1 becomes zeros, then the end; without its last byte no list. */
+static const uint8_t write_of_0_1[260] = { 3, 0, 1 };
 
 static void expect_1_of_all(struct disc *disc, const struct arguments *given)
 {
@@ -269,6 +195,7 @@ static void expect_1_of_all(struct disc *disc, const struct arguments *given)
     EXPECT_NUMBER(1, try_delete(disc, name));
     EXPECT_NUMBER(1, try_rename(disc, name, new_name));
     EXPECT_NUMBER(1, try_protect(disc, name, 1));
+    EXPECT_NUMBER(1, try_replay(disc, given->writes));
     EXPECT_NUMBER(1, try_blank(disc, text(given->disc_name)));
     EXPECT_NUMBER(1, try_view_number(disc, given->track, given->sector));
     expect_disc("disc after refusals", &expected, disc);
@@ -278,7 +205,8 @@ void expect_refused_1(struct disc *disc)
 {
     static const struct arguments right = {
         .name = "A", .new_name = "C", .disc_name = "DISC", .sector = 1,
-        .sheet_len = 1, .list_len = 9752, .read_len = 245
+        .sheet_len = 1, .list_len = 9752, .read_len = 245,
+        .writes = { write_of_0_1, sizeof write_of_0_1 }
     };
 
     expect_1_of_all(disc, &right);
@@ -288,7 +216,7 @@ void expect_refused_1_first(struct disc *disc)
 {
     static const struct arguments wrong = {
         .name = "X.", .new_name = "X.", .disc_name = "A.B", .page = 8,
-        .track = 255, .sector = 11
+        .track = 255, .sector = 11, .writes = { write_of_0_1, 259 }
     };
 
     expect_1_of_all(disc, &wrong);

@@ -9,6 +9,7 @@
 
 #include "discs.h"
 #include "tandos.h"
+#include "writes.h"
 
 /* What these calls state of an image. The image that they lend is the disc in
  * the arrangement stated. */
@@ -38,16 +39,49 @@ struct text bytes(const uint8_t *bytes, size_t length);
 #define BUFFER_MAX (TANDOS_SHEET_MAX + 16)
 extern uint8_t answer[BUFFER_MAX];
 
+/* The list that a save, delete, rename or protect left at the front of its
+ * buffer, of length 0 if it was refused. */
+extern struct writes written;
+
+/* One of these four with its arguments, to be given with a buffer of any
+ * length. */
+enum command_kind { SAVE, DELETE, RENAME, PROTECT };
+
+struct command {
+    enum command_kind kind;
+    struct text name;
+    struct text other; /* the sheet of a save, the new name of a rename */
+    uint32_t page, on;
+    uint16_t start, transfer;
+};
+
+struct command a_save(struct text name, uint32_t page, uint16_t start,
+                      uint16_t transfer, struct text sheet);
+struct command a_delete(struct text name);
+struct command a_rename(struct text old_name, struct text new_name);
+struct command a_protect(struct text name, uint32_t on);
+
+tandos_filled try_command(struct disc *disc, const struct command *command,
+                          size_t writes_len);
+
 tandos_checked try_check(const struct disc *disc);
-tandos_listed try_list(const struct disc *disc, size_t buffer_len);
+tandos_filled try_list(const struct disc *disc, size_t buffer_len);
 tandos_reading try_read(const struct disc *disc, struct text name,
                         size_t buffer_len);
+
+/* The four with a buffer that is long enough. Where one is refused, so it is
+ * with no buffer. Where it is accepted, its list is the one made by hand; a
+ * buffer one byte shorter than the list, or none, is refused with 10; one as
+ * long as the list is enough; and the list replayed on the disc as it was gives
+ * the disc as it is. */
 uint32_t try_save(struct disc *disc, struct text name, uint32_t page,
                   uint16_t start, uint16_t transfer, struct text sheet);
 uint32_t try_delete(struct disc *disc, struct text name);
 uint32_t try_rename(struct disc *disc, struct text old_name,
                     struct text new_name);
 uint32_t try_protect(struct disc *disc, struct text name, uint32_t on);
+
+uint32_t try_replay(struct disc *disc, struct text list);
 uint32_t try_blank(struct disc *disc, struct text name);
 uint32_t try_view_number(const struct disc *disc, uint32_t track,
                          uint32_t sector);

@@ -29,15 +29,33 @@ static int is_added_up(void)
     return done == TANDOS_DONE && totals[TANDOS_WORKERS - 1] == 258;
 }
 
+// What the library wrote to a disc, it writes to a copy of it.
+static int is_replayed(const tandos_image *disc)
+{
+    static uint8_t copy[sizeof bytes], writes[TANDOS_ENTRY_WRITES_SIZE];
+    static const uint8_t sheet[] = { TANDOS_SHEET_END };
+    static uint8_t saved[TANDOS_SAVE_WRITES_MAX];
+    uint32_t refused = tandos_delete(TANDOS_ON(*disc), TANDOS_TEXT("A"), writes,
+                                     sizeof writes).number;
+    tandos_filled filled;
+
+    memcpy(copy, bytes, sizeof copy);
+    filled = tandos_save(TANDOS_ON(*disc), TANDOS_TEXT("A"), 0, 0, 0, sheet,
+                         sizeof sheet, saved, sizeof saved);
+    return refused == TANDOS_ABSENT && filled.number == TANDOS_DONE &&
+           filled.length == TANDOS_WRITES_SIZE(3) &&
+           saved[0] == TANDOS_WRITE && saved[777] == TANDOS_WRITES_END &&
+           tandos_replay(copy, sizeof copy, disc->sectors, disc->arrangement,
+                         saved, filled.length) == TANDOS_DONE &&
+           memcmp(copy, bytes, sizeof copy) == 0;
+}
+
 int main(void)
 {
     tandos_image disc = { bytes, sizeof bytes, TANDOS_TEN, TANDOS_MOVED };
-    const tandos_image *lent = &disc;
-    const char *name = "A";
     uint32_t done = tandos_blank(TANDOS_ON(disc), TANDOS_TEXT("DISC"));
-    uint32_t absent = tandos_delete(TANDOS_ON(*lent), TANDOS_TEXT(name));
     uint32_t refused = tandos_check(NULL, 0, TANDOS_NINE, TANDOS_PLAIN).number;
 
-    return done == TANDOS_DONE && absent == TANDOS_ABSENT && is_moved() &&
+    return done == TANDOS_DONE && is_moved() && is_replayed(&disc) &&
            is_added_up() && tandos_refusal_name(refused)[0] == 'S' ? 0 : 1;
 }

@@ -50,3 +50,23 @@ void expect_kept_beyond(size_t written, const char *what, struct lent *lent)
     free(lent->block);
     free(lent->before);
 }
+
+struct lent lend_disc(const struct disc *disc)
+{
+    static uint8_t image[DISC_MAX];
+
+    arrange(image, disc->bytes, disc->length, stated.arrangement);
+    return lend(image, disc->length);
+}
+
+struct lent lend_text(struct text text)
+{
+    return lend(text.bytes, text.length);
+}
+
+void take_back(const char *what, struct disc *disc, struct lent *image,
+               uint32_t number)
+{
+    arrange_back(disc->bytes, image->bytes, disc->length, stated.arrangement);
+    expect_kept_beyond(number == TANDOS_DONE ? disc->length : 0, what, image);
+}

@@ -23,6 +23,8 @@ static const struct test tests[] = {
     { "protect", test_protect },
     { "check", test_check },
     { "view", test_view },
+    { "writes", test_writes },
+    { "replay", test_replay },
     { "sizes", test_sizes },
     { "order", test_order },
     { "arrangement", test_arrangement },

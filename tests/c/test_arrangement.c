@@ -59,6 +59,8 @@ static void misstated(void)
     static uint8_t image[40 * 2560], before[40 * 2560];
     uint32_t other =
         stated.arrangement == TANDOS_PLAIN ? TANDOS_MOVED : TANDOS_PLAIN;
+    uint8_t writes[TANDOS_DELETE_WRITES_SIZE];
+    struct text name = text("THU.PCS");
     struct disc disc;
 
     make_pieces(&disc);
@@ -67,25 +69,29 @@ static void misstated(void)
     EXPECT_NUMBER(0, tandos_check(image, sizeof image, TANDOS_TEN, other).rule);
     EXPECT_NUMBER(0, tandos_check(image, sizeof image, STATED).number);
     EXPECT_NUMBER(1, tandos_check(image, sizeof image, STATED).rule != 0);
-    EXPECT_NUMBER(3, tandos_delete(image, sizeof image, STATED,
-                                   TANDOS_TEXT("THU.PCS")));
+    EXPECT_NUMBER(3, tandos_delete(image, sizeof image, STATED, name.bytes,
+                                   name.length, writes, sizeof writes).number);
     expect_bytes("image after the refusal", before, image, sizeof image);
     EXPECT_NUMBER(0, tandos_delete(image, sizeof image, TANDOS_TEN, other,
-                                   TANDOS_TEXT("THU.PCS")));
+                                   name.bytes, name.length, writes,
+                                   sizeof writes).number);
 }
 
-/* Number, image, and what a read or list left in its buffer. */
+/* Number, image, list of writes, and what a read or list left in its buffer. */
 static void compare_step(struct disc *plain, struct disc *moved, unsigned step)
 {
     static uint8_t plain_answer[BUFFER_MAX];
+    static struct writes plain_writes;
     uint32_t number;
 
     stated.arrangement = TANDOS_PLAIN;
     number = try_step(plain, step);
     memcpy(plain_answer, answer, sizeof answer);
+    plain_writes = written;
     stated.arrangement = TANDOS_MOVED;
     EXPECT_NUMBER(number, try_step(moved, step));
     expect_bytes("answer of the run", plain_answer, answer, sizeof answer);
+    expect_writes("list of the run", &plain_writes, &written);
     expect_disc("disc of the run", plain, moved);
     EXPECT_NUMBER(0, try_check(moved).rule);
 }

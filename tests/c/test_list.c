@@ -9,7 +9,7 @@
 static void expect_list(const struct disc *disc, const uint8_t *records,
                         size_t length)
 {
-    tandos_listed listed = try_list(disc, length);
+    tandos_filled listed = try_list(disc, length);
 
     EXPECT_NUMBER(0, listed.number);
     EXPECT_NUMBER(length, listed.length);

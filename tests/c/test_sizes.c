@@ -5,6 +5,23 @@
 #include "report.h"
 #include "tests.h"
 
+static void nothing_to_write(void)
+{
+    tandos_filled saved =
+        tandos_save(NULL, 0, STATED, NULL, 0, 0, 0, 0, NULL, 0, NULL, 0);
+    tandos_filled renamed =
+        tandos_rename(NULL, 0, STATED, NULL, 0, NULL, 0, NULL, 0);
+
+    EXPECT_NUMBER(1, saved.number);
+    EXPECT_NUMBER(0, saved.length);
+    EXPECT_NUMBER(1, tandos_delete(NULL, 0, STATED, NULL, 0, NULL, 0).number);
+    EXPECT_NUMBER(1, renamed.number);
+    EXPECT_NUMBER(0, renamed.length);
+    EXPECT_NUMBER(1, tandos_protect(NULL, 0, STATED, NULL, 0, 0, NULL,
+                                    0).number);
+    EXPECT_NUMBER(1, tandos_replay(NULL, 0, STATED, NULL, 0));
+}
+
 /* Nothing lent at all: no call may look behind a NULL. */
 static void nothing_lent(void)
 {
@@ -15,10 +32,7 @@ static void nothing_lent(void)
     EXPECT_NUMBER(1, tandos_list(NULL, 0, STATED, NULL, 0).number);
     EXPECT_NUMBER(1, reading.number);
     EXPECT_NUMBER(0, reading.length);
-    EXPECT_NUMBER(1, tandos_save(NULL, 0, STATED, NULL, 0, 0, 0, 0, NULL, 0));
-    EXPECT_NUMBER(1, tandos_delete(NULL, 0, STATED, NULL, 0));
-    EXPECT_NUMBER(1, tandos_rename(NULL, 0, STATED, NULL, 0, NULL, 0));
-    EXPECT_NUMBER(1, tandos_protect(NULL, 0, STATED, NULL, 0, 0));
+    nothing_to_write();
     EXPECT_NUMBER(1, tandos_blank(NULL, 0, STATED, NULL, 0));
     EXPECT_NUMBER(1, tandos_view_number(NULL, 0, STATED, 0, 1));
     EXPECT_NUMBER(0, tandos_view_start(NULL, 0, STATED, 0, 1));
@@ -42,6 +56,7 @@ static void no_name_and_no_buffer(void)
     EXPECT_NUMBER(2, try_rename(&disc, text("A"), nothing));
     EXPECT_NUMBER(2, try_rename(&disc, nothing, text("C")));
     EXPECT_NUMBER(2, try_protect(&disc, nothing, 1));
+    EXPECT_NUMBER(14, try_replay(&disc, nothing));
     EXPECT_NUMBER(2, try_blank(&disc, nothing));
     arrange(image, disc.bytes, length, stated.arrangement);
     EXPECT_NUMBER(10, tandos_list(image, length, STATED, NULL, 0).number);
@@ -65,6 +80,14 @@ static void macros(void)
     EXPECT_NUMBER(204800, TANDOS_IMAGE_MAX);
     EXPECT_NUMBER(256, TANDOS_LINK_SIZE + TANDOS_VIEW_SIZE);
     EXPECT_NUMBER(28, TANDOS_LIST_SIZE(1));
+    EXPECT_NUMBER(259, TANDOS_WRITE_RECORD_SIZE);
+    EXPECT_NUMBER(1, TANDOS_WRITES_SIZE(0));
+    EXPECT_NUMBER(1037, TANDOS_WRITES_SIZE(2 + 2));
+    EXPECT_NUMBER(68118, TANDOS_SAVE_WRITES_MAX);
+    EXPECT_NUMBER(778, TANDOS_DELETE_WRITES_SIZE);
+    EXPECT_NUMBER(260, TANDOS_ENTRY_WRITES_SIZE);
+    EXPECT_NUMBER(3, TANDOS_WRITE);
+    EXPECT_NUMBER(0, TANDOS_WRITES_END);
     EXPECT_NUMBER(65536, TANDOS_SHEET_MAX);
 }
 

@@ -7,7 +7,8 @@
 
 static const char *const names[] = {
     "DONE", "SIZE", "NAME", "UNSOUND", "ABSENT", "TAKEN", "PROTECTED",
-    "MODULE", "ROOM", "NOT PLAIN", "SHORT", "NO SECTOR", "BAD SHEET", "TOTAL"
+    "MODULE", "ROOM", "NOT PLAIN", "SHORT", "NO SECTOR", "BAD SHEET", "TOTAL",
+    "BAD LIST"
 };
 
 static void numbers(void)
@@ -26,6 +27,7 @@ static void numbers(void)
     EXPECT_NUMBER(11, TANDOS_NO_SECTOR);
     EXPECT_NUMBER(12, TANDOS_BAD_SHEET);
     EXPECT_NUMBER(13, TANDOS_TOTAL);
+    EXPECT_NUMBER(14, TANDOS_BAD_LIST);
 }
 
 /* One sentence each: a full stop at the end and nowhere before. */
@@ -71,12 +73,12 @@ void test_text(void)
     uint32_t number;
 
     numbers();
-    for (number = 0; number <= 13; number++)
+    for (number = 0; number <= 14; number++)
         expect_text("name", names[number], tandos_refusal_name(number));
-    expect_text("name of 14", "?", tandos_refusal_name(14));
+    expect_text("name of 15", "?", tandos_refusal_name(15));
     expect_text("name of 256", "?", tandos_refusal_name(256));
     expect_text("name of the highest", "?", tandos_refusal_name(0xFFFFFFFF));
-    expect_distinct(tandos_refusal_text, 13);
+    expect_distinct(tandos_refusal_text, 14);
     expect_distinct(tandos_rule_text, 8);
     rules_are_named();
 }

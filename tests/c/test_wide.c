@@ -20,24 +20,58 @@
 static void too_long(uint8_t *wide, uint8_t *image)
 {
     size_t track = track_size(), length = CUT_TO_ZERO + track;
-    uint8_t expected[2560], name[1] = { 'C' };
+    uint8_t expected[2560], writes[778], name[1] = { 'C' }, end[1] = { 0 };
 
     memcpy(expected, image, track);
     EXPECT_NUMBER(1, tandos_check(wide, length, STATED).number);
     EXPECT_NUMBER(1, tandos_view_number(wide, length, STATED, 0, 1));
     EXPECT_NUMBER(0, tandos_view_start(wide, length, STATED, 0, 1));
-    EXPECT_NUMBER(2, tandos_delete(image, track, STATED, wide,
-                                   CUT_TO_ZERO + 1));
+    EXPECT_NUMBER(1, tandos_replay(wide, length, STATED, end, sizeof end));
+    EXPECT_NUMBER(2, tandos_delete(image, track, STATED, wide, CUT_TO_ZERO + 1,
+                                   writes, sizeof writes).number);
     EXPECT_NUMBER(7, tandos_save(image, track, STATED, name, 1, 0, 0, 0, wide,
-                                 CUT_TO_ZERO + 1));
+                                 CUT_TO_ZERO + 1, writes,
+                                 sizeof writes).number);
     expect_bytes("image after refusals", expected, image, track);
+}
+
+/* Cut to 32 bits, the list would be an end alone, or one write of 0/1. */
+static void too_long_a_list(uint8_t *wide, uint8_t *image)
+{
+    static const uint8_t head[] = { 3, 0, 1 };
+    size_t track = track_size();
+    uint8_t expected[2560];
+
+    memcpy(expected, image, track);
+    memset(wide, 0, sizeof head);
+    EXPECT_NUMBER(14, tandos_replay(image, track, STATED, wide,
+                                    CUT_TO_ZERO + 1));
+    memcpy(wide, head, sizeof head);
+    EXPECT_NUMBER(14, tandos_replay(image, track, STATED, wide,
+                                    CUT_TO_ZERO + 260));
+    expect_bytes("image after refused lists", expected, image, track);
+}
+
+/* Cut to 32 bits, the buffer of writes would be of length 0. */
+static void long_enough_for_writes(uint8_t *wide, uint8_t *image)
+{
+    static const uint8_t head[] = { 3, 0, 4 };
+    uint8_t name[1] = { 'A' };
+    tandos_filled filled = tandos_protect(image, track_size(), STATED, name, 1,
+                                          1, wide, CUT_TO_ZERO);
+
+    EXPECT_NUMBER(0, filled.number);
+    EXPECT_NUMBER(260, filled.length);
+    expect_bytes("write of 0/4", head, wide, sizeof head);
+    EXPECT_NUMBER(0x80, wide[3 + 18]);
+    EXPECT_NUMBER(0, wide[259]);
 }
 
 /* Cut to 32 bits, the buffer would be of length 0. */
 static void long_enough(uint8_t *wide, const uint8_t *image)
 {
     uint8_t name[1] = { 'A' };
-    tandos_listed listed =
+    tandos_filled listed =
         tandos_list(image, track_size(), STATED, wide, CUT_TO_ZERO);
     tandos_reading reading = tandos_read(image, track_size(), STATED, name, 1,
                                          wide, CUT_TO_ZERO);
@@ -88,6 +122,8 @@ void test_wide(void)
     wide[1] = '.';
     too_long(wide, image);
     long_enough(wide, image);
+    long_enough_for_writes(wide, image);
+    too_long_a_list(wide, image);
     too_long_for_totals(wide);
     free(wide);
 }

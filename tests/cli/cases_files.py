@@ -135,7 +135,8 @@ def _():
                       ["view", "x", "0/1"], ["delete", "x", "A"],
                       ["rename", "x", "A", "B"], ["protect", "x", "A", "on"],
                       ["save", "x", "A", "a.img"], ["save", "a.img", "A", "x"],
-                      ["totals", "a.img", "x"]):
+                      ["totals", "a.img", "x"], ["replay", "a.img", "x"],
+                      ["replay", "x", "a.img"], ["writes", "x"]):
         fails("x: cannot open", *arguments)
     equal(os.listdir("."), ["a.img"])
 
@@ -195,10 +196,10 @@ def _():
     equal(os.listdir("sub"), ["a.img"])
 
 
-def limited(ignored):
-    """Files of at most 1,000 bytes: a write beyond that fails."""
+def limited(ignored, most=1000):
+    """Files of at most so many bytes: a write beyond that fails."""
     def prepare():
-        resource.setrlimit(resource.RLIMIT_FSIZE, (1000, 1000))
+        resource.setrlimit(resource.RLIMIT_FSIZE, (most, most))
         signal.signal(signal.SIGXFSZ,
                       signal.SIG_IGN if ignored else signal.SIG_DFL)
         resource.setrlimit(resource.RLIMIT_CORE, (0, 0))

@@ -255,7 +255,7 @@ def _():
     header = read(os.path.join(ROOT, "include", "tandos.h")).decode()
     header = re.sub(r"/\*.*?\*/", "", header, flags=re.DOTALL)
     calls = re.findall(r"\b(tandos_\w+)\(", header)
-    equal(len(calls), 15)
+    equal(len(calls), 16)
     for call in calls:
         holds(text, f".Nm {call}")
         holds(text, f".It Fn {call}\n")

@@ -319,9 +319,9 @@ def full_pipe():
 
 
 def wait_until_asleep(process):
-    """Until the process has waited for something for a while."""
+    """Until the process has waited for something for a while, or is over."""
     asleep = 0
-    while asleep < 10:
+    while asleep < 10 and process.poll() is None:
         time.sleep(0.01)
         state = read(f"/proc/{process.pid}/stat").rsplit(b")", 1)[1].split()[0]
         asleep = asleep + 1 if state == b"S" else 0

@@ -1,6 +1,6 @@
 """Help, version, misuse."""
 
-from disc import Disc
+from disc import END_RECORD, Disc
 from support import case, does, equal, fails, holds, is_misuse, unchanged, write
 
 COMMANDS = {
@@ -8,9 +8,11 @@ COMMANDS = {
     "list": "IMAGE [--table | --json] [--moved | --sectors 9]",
     "read": "IMAGE NAME [-o FILE | --info] [--moved | --sectors 9]",
     "save": "IMAGE NAME FILE [OPTION..]",
-    "delete": "IMAGE NAME [--moved | --sectors 9]",
-    "rename": "IMAGE OLD NEW [--moved | --sectors 9]",
-    "protect": "IMAGE NAME on|off [--moved | --sectors 9]",
+    "delete": "IMAGE NAME [--writes FILE] [--moved | --sectors 9]",
+    "rename": "IMAGE OLD NEW [--writes FILE] [--moved | --sectors 9]",
+    "protect": "IMAGE NAME on|off [--writes FILE] [--moved | --sectors 9]",
+    "replay": "IMAGE FILE [--moved | --sectors 9]",
+    "writes": "FILE [--json]",
     "check": "IMAGE.. [--moved | --sectors 9]",
     "view": "IMAGE TRACK/SECTOR [--moved | --sectors 9]",
     "map": "IMAGE [--color=WHEN] [--svg FILE] [--moved | --sectors 9]",
@@ -34,7 +36,8 @@ def _():
         text = does(command, "--help").text
         holds(text, f"Usage: tandos {command} {synopsis}\n")
         for option in ("  --moved ", "  --sectors 9 "):
-            equal(option in text, command != "rearrange", command)
+            equal(option in text, command not in ("rearrange", "writes"),
+                  command)
         equal(does(command, "a", "b", "c", "d", "-h").text, text)
 
 
@@ -72,8 +75,8 @@ def _():
 
 
 def count(command):
-    return {"list": 1, "map": 1, "rearrange": 1, "read": 2, "delete": 2,
-            "view": 2}.get(command, 3)
+    return {"list": 1, "map": 1, "rearrange": 1, "writes": 1, "read": 2,
+            "delete": 2, "view": 2, "replay": 2}.get(command, 3)
 
 
 @case("misuse: numbers that are none, or out of 16 bits")
@@ -114,6 +117,10 @@ def _():
     for command, option, values in (("save", "--page", ["--page", "1"]),
                                     ("read", "--output", ["-ox"]),
                                     ("list", "--sectors", ["--sectors=9"]),
+                                    ("save", "--writes", ["--writes", "x"]),
+                                    ("delete", "--writes", ["--writes=x"]),
+                                    ("rename", "--writes", ["--writes", "x"]),
+                                    ("protect", "--writes", ["--writes=x"]),
                                     ("totals", "--sheet", ["--sheet", "A"])):
         is_misuse(f"tandos {command}: there is no use for a second option "
                   f"'{option}'\n", command, "a.img", "A", *values, option, "1")
@@ -123,7 +130,7 @@ def _():
 def _():
     for arguments in (["blank", "-", "1", "D"], ["save", "-", "A", "s"],
                       ["delete", "-", "A"], ["rename", "-", "A", "B"],
-                      ["protect", "-", "A", "on"]):
+                      ["protect", "-", "A", "on"], ["replay", "-", "s"]):
         write("s", b"x")
         is_misuse("is a file, not '-'", *arguments)
 
@@ -139,9 +146,11 @@ def _():
 @case("output: a full device is an error")
 def _():
     write("a.img", Disc.blank(1, "D").data)
+    write("list", END_RECORD)
     with open("/dev/full", "wb") as full:
         for arguments in (["--help"], ["--version"], ["list", "a.img"],
                           ["check", "a.img"], ["view", "a.img", "0/1"],
-                          ["totals", "a.img"], ["totals", "a.img", "--csv"]):
+                          ["totals", "a.img"], ["totals", "a.img", "--csv"],
+                          ["writes", "list"], ["replay", "a.img", "list"]):
             fails("standard output: cannot write: No space left", *arguments,
                   stdout=full)

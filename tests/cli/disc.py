@@ -176,8 +176,7 @@ class Disc:
 
     def delete(self, typed):
         """What a delete that is not refused does."""
-        at, entry = next((at, Entry(data)) for at, data in self.slots()
-                         if data[:9] == stored_name(typed))
+        at, entry = self.find(typed)
         sectors = Walk(self, entry.first).sectors
         free = self.free().sectors
         self.data[at:at + 16] = bytes(16)
@@ -186,6 +185,52 @@ class Disc:
         self.set_pair(FREE_POINTER, sectors[0])
         self.set_word(FREE_COUNT, self.word(FREE_COUNT) + len(sectors))
         self.set_word(USED_COUNT, self.word(USED_COUNT) - len(sectors))
+
+    def rename(self, typed, new_name):
+        """What a rename that is not refused does."""
+        at, _ = self.find(typed)
+        self.data[at:at + 9] = stored_name(new_name)
+
+    def protect(self, typed, on):
+        """What a protect that is not refused does."""
+        at, _ = self.find(typed)
+        self.data[at + 15] = 0x80 if on else 0x00
+
+    def find(self, typed):
+        """Position and entry of a file that stands."""
+        return next((at, Entry(data)) for at, data in self.slots()
+                    if data[:9] == stored_name(typed))
+
+    def sectors_of_save(self, sheet):
+        """The numbers of the sectors that a save writes, in order; of the disc
+        before it. So the next two."""
+        count = len(module_bodies(sheet, 0, 0, 0))
+        free = self.free().sectors
+        for at, data in self.slots():
+            if not any(data):
+                return [0, *free[:count], at // SECTOR]
+        return [0, *free[:count + 1], self.directory().sectors[-1]]
+
+    def sectors_of_delete(self, typed):
+        at, entry = self.find(typed)
+        return [at // SECTOR, Walk(self, entry.first).sectors[-1], 0]
+
+    def sectors_of_entry(self, typed):
+        """Of a rename or protect."""
+        return [self.find(typed)[0] // SECTOR]
+
+    def writes(self, numbers):
+        """The list of writes of these sectors as they stand."""
+        return b"".join(write_record(*self.pair_of(number),
+                                     self.data[SECTOR * number:
+                                               SECTOR * (number + 1)])
+                        for number in numbers) + END_RECORD
+
+    def replay(self, writes):
+        """What a replay that is not refused does."""
+        for at in range(0, len(writes) - 1, WRITE_RECORD):
+            to = SECTOR * (self.sectors * writes[at + 1] + writes[at + 2] - 1)
+            self.data[to:to + SECTOR] = writes[at + 3:at + WRITE_RECORD]
 
     def grow(self, number):
         self.set_link(self.directory().sectors[-1], number)
@@ -289,6 +334,40 @@ def records(*pairs):
     """A sheet with a date and these (worker, pieces)."""
     return (DATE_RECORD + b"".join(pieces_record(*pair) for pair in pairs)
             + END_RECORD)
+
+
+# The records of a list of writes; its end is that of a sheet.
+WRITE_RECORD = 259
+
+
+def write_record(track, sector, data):
+    return bytes([3, track, sector]) + bytes(data)
+
+
+def write_fault(writes, tracks=80, sectors=TEN):
+    """The first thing that is wrong with a list of writes for a disc, in
+    words; None if nothing is."""
+    for record in range(len(writes) // WRITE_RECORD + 1):
+        at = WRITE_RECORD * record
+        left = writes[at:]
+        where = f"record {record + 1}, byte {at}: "
+        if not left:
+            return where + "the list stops without its end"
+        if left[0] == 0:
+            more = len(left) - 1
+            return where + (f"the end, with {more} byte"
+                            f"{'' if more == 1 else 's'} after it") \
+                if more else None
+        if left[0] != 3:
+            return where + f"kind {left[0]}, which is neither 3 nor 0"
+        if len(left) < WRITE_RECORD:
+            return where + f"cut short after {len(left)} of its 259 bytes"
+        if left[1] >= tracks or not 1 <= left[2] <= sectors:
+            return where + (f"sector {left[1]}/{left[2]}, which is not on a "
+                            f"disc of {tracks} track"
+                            f"{'' if tracks == 1 else 's'} of {sectors} "
+                            "sectors")
+    raise AssertionError("a list has an end or a fault")
 
 
 def sheet_fault(sheet):

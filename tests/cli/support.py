@@ -28,6 +28,7 @@ REFUSALS = {
     12: ("BAD SHEET", "The file is no sheet of records"),
     13: ("TOTAL", "A worker's total is, or would become, more than "
                   "1,000,000,000"),
+    14: ("BAD LIST", "The file is no list of writes"),
 }
 
 _cases = []

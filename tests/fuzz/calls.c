@@ -7,22 +7,23 @@
 
 uint8_t answer[BUFFER_MOST];
 
-/* A buffer's bytes before a call: neither zeros nor what a call writes. */
-static const uint8_t *unwritten(void)
+/* A buffer's bytes before a call: neither zeros nor what a call writes, and
+ * others where the buffer is longer or shorter. */
+static const uint8_t *unwritten(size_t length)
 {
-    static uint8_t bytes[BUFFER_MOST];
+    static uint8_t bytes[BUFFER_MOST + 256];
     size_t i;
 
     if (bytes[0] == 0)
-        for (i = 0; i < BUFFER_MOST; i++)
+        for (i = 0; i < sizeof bytes; i++)
             bytes[i] = (uint8_t)(0x5B + 3 * i);
-    return bytes;
+    return bytes + length % 256;
 }
 
 static struct lent lend_buffer(size_t length)
 {
     /* An empty buffer may be lent as NULL. */
-    return lend(length == 0 ? NULL : unwritten(), length);
+    return lend(length == 0 ? NULL : unwritten(length), length);
 }
 
 static struct lent lend_text(struct text text)
@@ -43,7 +44,7 @@ static tandos_image disc_on(const struct lent *lent, struct stated stated)
 
 static void take_buffer(struct lent *buffer, size_t written, const char *what)
 {
-    require_kept(buffer, unwritten(), written, what);
+    require_kept(buffer, unwritten(buffer->length), written, what);
     if (written > 0)
         memcpy(answer, buffer->bytes, written);
     give_back(buffer);
@@ -61,6 +62,15 @@ static void take_image(struct image *image, struct lent *lent, uint32_t number,
     give_back(lent);
 }
 
+/* Records in their buffer; none with a refusal. */
+static void take_filled(struct lent *buffer, tandos_filled filled,
+                        const char *what)
+{
+    if (filled.number != TANDOS_DONE)
+        REQUIRE_EQUAL(0, filled.length, "length with a refusal");
+    take_buffer(buffer, filled.length, what);
+}
+
 tandos_checked call_check(const struct lent *image, struct stated stated)
 {
     tandos_image disc = disc_on(image, stated);
@@ -74,18 +84,16 @@ tandos_checked call_check(const struct lent *image, struct stated stated)
     return checked;
 }
 
-tandos_listed call_list(const struct lent *image, struct stated stated,
+tandos_filled call_list(const struct lent *image, struct stated stated,
                         size_t buffer_length)
 {
     tandos_image disc = disc_on(image, stated);
     struct lent buffer = lend_buffer(buffer_length);
-    tandos_listed listed = tandos_list(TANDOS_ON(disc), buffer.bytes,
+    tandos_filled listed = tandos_list(TANDOS_ON(disc), buffer.bytes,
                                        buffer.length);
 
     count_answer(CALL_LIST, stated, listed.number);
-    if (listed.number != TANDOS_DONE)
-        REQUIRE_EQUAL(0, listed.length, "length of a refused list");
-    take_buffer(&buffer, listed.length, "list writes beside its records");
+    take_filled(&buffer, listed, "list writes beside its records");
     return listed;
 }
 
@@ -131,67 +139,94 @@ struct viewed call_view(const struct lent *image, struct stated stated,
     return viewed;
 }
 
-uint32_t call_save(struct image *image, struct text name,
-                   const struct module *module)
+tandos_filled call_save(struct image *image, struct text name,
+                        const struct module *module, size_t buffer_length)
 {
     struct lent lent = lend(image->bytes, image->length);
     tandos_image disc = disc_on(&lent, image->stated);
     struct lent typed = lend_text(name);
     struct lent sheet = lend_text(module->sheet);
-    uint32_t number =
+    struct lent buffer = lend_buffer(buffer_length);
+    tandos_filled filled =
         tandos_save(TANDOS_ON(disc), typed.bytes, typed.length, module->page,
                     module->start, module->transfer, sheet.bytes,
-                    sheet.length);
+                    sheet.length, buffer.bytes, buffer.length);
 
-    count_answer(CALL_SAVE, image->stated, number);
-    take_image(image, &lent, number, "image after a refused save");
+    count_answer(CALL_SAVE, image->stated, filled.number);
+    take_image(image, &lent, filled.number, "image after a refused save");
+    take_filled(&buffer, filled, "save writes beside its list");
     give_back_kept(&typed, name.bytes, "save changes the name");
     give_back_kept(&sheet, module->sheet.bytes, "save changes the sheet");
-    return number;
+    return filled;
 }
 
-uint32_t call_delete(struct image *image, struct text name)
+tandos_filled call_delete(struct image *image, struct text name,
+                          size_t buffer_length)
 {
     struct lent lent = lend(image->bytes, image->length);
     tandos_image disc = disc_on(&lent, image->stated);
     struct lent typed = lend_text(name);
-    uint32_t number = tandos_delete(TANDOS_ON(disc), typed.bytes, typed.length);
+    struct lent buffer = lend_buffer(buffer_length);
+    tandos_filled filled = tandos_delete(TANDOS_ON(disc), typed.bytes,
+                                         typed.length, buffer.bytes,
+                                         buffer.length);
 
-    count_answer(CALL_DELETE, image->stated, number);
-    take_image(image, &lent, number, "image after a refused delete");
+    count_answer(CALL_DELETE, image->stated, filled.number);
+    take_image(image, &lent, filled.number, "image after a refused delete");
+    take_filled(&buffer, filled, "delete writes beside its list");
     give_back_kept(&typed, name.bytes, "delete changes the name");
-    return number;
+    return filled;
 }
 
-uint32_t call_rename(struct image *image, struct text old_name,
-                     struct text new_name)
+tandos_filled call_rename(struct image *image, struct text old_name,
+                          struct text new_name, size_t buffer_length)
 {
     struct lent lent = lend(image->bytes, image->length);
     tandos_image disc = disc_on(&lent, image->stated);
     struct lent old_typed = lend_text(old_name);
     struct lent new_typed = lend_text(new_name);
-    uint32_t number =
+    struct lent buffer = lend_buffer(buffer_length);
+    tandos_filled filled =
         tandos_rename(TANDOS_ON(disc), old_typed.bytes, old_typed.length,
-                      new_typed.bytes, new_typed.length);
+                      new_typed.bytes, new_typed.length, buffer.bytes,
+                      buffer.length);
 
-    count_answer(CALL_RENAME, image->stated, number);
-    take_image(image, &lent, number, "image after a refused rename");
+    count_answer(CALL_RENAME, image->stated, filled.number);
+    take_image(image, &lent, filled.number, "image after a refused rename");
+    take_filled(&buffer, filled, "rename writes beside its list");
     give_back_kept(&old_typed, old_name.bytes, "rename changes the old name");
     give_back_kept(&new_typed, new_name.bytes, "rename changes the new name");
-    return number;
+    return filled;
 }
 
-uint32_t call_protect(struct image *image, struct text name, uint32_t on)
+tandos_filled call_protect(struct image *image, struct text name, uint32_t on,
+                           size_t buffer_length)
 {
     struct lent lent = lend(image->bytes, image->length);
     tandos_image disc = disc_on(&lent, image->stated);
     struct lent typed = lend_text(name);
-    uint32_t number = tandos_protect(TANDOS_ON(disc), typed.bytes,
-                                     typed.length, on);
+    struct lent buffer = lend_buffer(buffer_length);
+    tandos_filled filled = tandos_protect(TANDOS_ON(disc), typed.bytes,
+                                          typed.length, on, buffer.bytes,
+                                          buffer.length);
 
-    count_answer(CALL_PROTECT, image->stated, number);
-    take_image(image, &lent, number, "image after a refused protect");
+    count_answer(CALL_PROTECT, image->stated, filled.number);
+    take_image(image, &lent, filled.number, "image after a refused protect");
+    take_filled(&buffer, filled, "protect writes beside its list");
     give_back_kept(&typed, name.bytes, "protect changes the name");
+    return filled;
+}
+
+uint32_t call_replay(struct image *image, struct text writes)
+{
+    struct lent lent = lend(image->bytes, image->length);
+    tandos_image disc = disc_on(&lent, image->stated);
+    struct lent list = lend_text(writes);
+    uint32_t number = tandos_replay(TANDOS_ON(disc), list.bytes, list.length);
+
+    count_answer(CALL_REPLAY, image->stated, number);
+    take_image(image, &lent, number, "image after a refused replay");
+    give_back_kept(&list, writes.bytes, "replay changes the list");
     return number;
 }
 

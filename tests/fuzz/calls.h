@@ -11,7 +11,8 @@
 #include "input.h"
 #include "lent.h"
 
-/* What a list or read left at the front of its buffer. */
+/* What a list, a read or a command that writes left at the front of its
+ * buffer. */
 extern uint8_t answer[BUFFER_MOST];
 
 struct viewed {
@@ -21,7 +22,7 @@ struct viewed {
 
 /* The image is lent for reading: whoever lent it expects it kept. */
 tandos_checked call_check(const struct lent *image, struct stated stated);
-tandos_listed call_list(const struct lent *image, struct stated stated,
+tandos_filled call_list(const struct lent *image, struct stated stated,
                         size_t buffer_length);
 tandos_reading call_read(const struct lent *image, struct stated stated,
                          struct text name, size_t buffer_length);
@@ -34,12 +35,16 @@ struct module {
     struct text sheet;
 };
 
-uint32_t call_save(struct image *image, struct text name,
-                   const struct module *module);
-uint32_t call_delete(struct image *image, struct text name);
-uint32_t call_rename(struct image *image, struct text old_name,
-                     struct text new_name);
-uint32_t call_protect(struct image *image, struct text name, uint32_t on);
+/* The first four lend a buffer of this length for their list of writes. */
+tandos_filled call_save(struct image *image, struct text name,
+                        const struct module *module, size_t buffer_length);
+tandos_filled call_delete(struct image *image, struct text name,
+                          size_t buffer_length);
+tandos_filled call_rename(struct image *image, struct text old_name,
+                          struct text new_name, size_t buffer_length);
+tandos_filled call_protect(struct image *image, struct text name, uint32_t on,
+                           size_t buffer_length);
+uint32_t call_replay(struct image *image, struct text writes);
 uint32_t call_blank(struct image *image, struct text name);
 
 /* On no image. */

@@ -5,7 +5,7 @@
 
 #include "finding.h"
 
-#define NUMBERS 14
+#define NUMBERS 15
 #define RULES 9
 #define SIZES 12
 
@@ -22,12 +22,14 @@ static const struct row rows[CALLS] = {
     [CALL_READ] = { "read", BIT(0) | BIT(1) | BIT(2) | BIT(3) | BIT(4) |
                             BIT(9) | BIT(10) },
     [CALL_SAVE] = { "save", BIT(0) | BIT(1) | BIT(2) | BIT(3) | BIT(5) |
-                            BIT(7) | BIT(8) },
+                            BIT(7) | BIT(8) | BIT(10) },
     [CALL_DELETE] = { "delete", BIT(0) | BIT(1) | BIT(2) | BIT(3) | BIT(4) |
-                                BIT(6) },
+                                BIT(6) | BIT(10) },
     [CALL_RENAME] = { "rename", BIT(0) | BIT(1) | BIT(2) | BIT(3) | BIT(4) |
-                                BIT(5) | BIT(6) },
-    [CALL_PROTECT] = { "protect", BIT(0) | BIT(1) | BIT(2) | BIT(3) | BIT(4) },
+                                BIT(5) | BIT(6) | BIT(10) },
+    [CALL_PROTECT] = { "protect", BIT(0) | BIT(1) | BIT(2) | BIT(3) | BIT(4) |
+                                  BIT(10) },
+    [CALL_REPLAY] = { "replay", BIT(0) | BIT(1) | BIT(14) },
     [CALL_BLANK] = { "blank", BIT(0) | BIT(1) | BIT(2) },
     [CALL_VIEW] = { "view", BIT(0) | BIT(1) | BIT(11) }
 };
@@ -51,6 +53,17 @@ static const char *const occasion_names[OCCASIONS] = {
     [SECTOR_ABOVE] = "above"
 };
 
+static const char *const list_names[LIST_OCCASIONS] = {
+    [LIST_KIND] = "kind", [LIST_CUT] = "cut", [LIST_TRACK] = "track",
+    [LIST_SECTOR_0] = "sector-0", [LIST_ABOVE] = "above",
+    [LIST_NO_END] = "no-end", [LIST_AFTER_END] = "after-end",
+    [LIST_AFTER_LIST] = "two-lists", [LIST_LATE] = "late",
+    [LIST_ALONE] = "end-alone", [LIST_SYSTEM] = "system",
+    [LIST_TWICE] = "twice", [LIST_LONG] = "long", [LIST_BREAKS] = "breaks",
+    [LIST_MENDS] = "mends", [SAVE_GROWS] = "grows",
+    [SAVE_LONGEST] = "longest", [SHORT_BY_ONE] = "one-short"
+};
+
 static const char *const sheet_names[SHEET_OCCASIONS] = {
     [SHEET_TABLE] = "table", [SHEET_KIND] = "kind", [SHEET_CUT] = "cut",
     [SHEET_NO_END] = "no-end", [SHEET_AFTER_END] = "after-end",
@@ -69,7 +82,8 @@ static const char *const sheet_names[SHEET_OCCASIONS] = {
 #define RULE_FEATURES (TABLES * CALLS * NUMBERS)
 #define OCCASION_FEATURES (RULE_FEATURES + TABLES * RULES)
 #define SIZE_FEATURES (OCCASION_FEATURES + DISC_KINDS * OCCASIONS)
-#define SHEET_FEATURES (SIZE_FEATURES + 3 * SIZES)
+#define LIST_FEATURES (SIZE_FEATURES + 3 * SIZES)
+#define SHEET_FEATURES (LIST_FEATURES + DISC_KINDS * LIST_OCCASIONS)
 
 /* libFuzzer clears this section before each input and reads it after. */
 __attribute__((section("__libfuzzer_extra_counters")))
@@ -78,6 +92,7 @@ static uint8_t features[SHEET_FEATURES + NUMBERS + SHEET_OCCASIONS];
 static unsigned long answers[TABLES][CALLS][NUMBERS];
 static unsigned long rules[TABLES][RULES];
 static unsigned long occasions[DISC_KINDS][OCCASIONS];
+static unsigned long list_occasions[DISC_KINDS][LIST_OCCASIONS];
 static unsigned long sheet_answers[NUMBERS];
 static unsigned long sheet_occasions[SHEET_OCCASIONS];
 static int is_on_twin;
@@ -151,6 +166,14 @@ void count_occasion(struct stated stated, enum occasion occasion)
     mark(OCCASION_FEATURES + kind * OCCASIONS + occasion);
 }
 
+void count_list_occasion(struct stated stated, enum list_occasion occasion)
+{
+    enum kind kind = kind_of(stated);
+
+    list_occasions[kind][occasion]++;
+    mark(LIST_FEATURES + kind * LIST_OCCASIONS + occasion);
+}
+
 void count_sheet_answer(uint32_t number)
 {
     REQUIRE(number < NUMBERS, "a number that is no refusal");
@@ -204,32 +227,41 @@ static void print_table(unsigned table)
         print_row("rule", table_names[table], rules[table], BIT(RULES) - 1);
 }
 
-static void print_occasions(void)
+/* One row of occasions, all of which have to occur. */
+static void print_counts(const char *name, const char *table,
+                         const unsigned long *counts, unsigned count)
 {
-    unsigned kind, i;
+    unsigned i;
 
-    printf("%-22s", "occasion");
-    for (i = 0; i < OCCASIONS; i++)
-        printf("%11s", occasion_names[i]);
-    for (kind = 0; kind < DISC_KINDS; kind++) {
-        printf("\n%-8s%-14s", "disc", table_names[kind]);
-        for (i = 0; i < OCCASIONS; i++)
-            printf("%11lu", occasions[kind][i]);
-    }
+    printf("%-8s%-14s", name, table);
+    for (i = 0; i < count; i++)
+        printf("%11lu", counts[i]);
     putchar('\n');
 }
 
-static void print_sheet_occasions(void)
+static void print_names(const char *const *names, unsigned count)
 {
     unsigned i;
 
     printf("%-22s", "occasion");
-    for (i = 0; i < SHEET_OCCASIONS; i++)
-        printf("%11s", sheet_names[i]);
-    printf("\n%-8s%-14s", "sheet", NO_DISC);
-    for (i = 0; i < SHEET_OCCASIONS; i++)
-        printf("%11lu", sheet_occasions[i]);
+    for (i = 0; i < count; i++)
+        printf("%11s", names[i]);
     putchar('\n');
+}
+
+static void print_occasions(void)
+{
+    unsigned kind;
+
+    print_names(occasion_names, OCCASIONS);
+    for (kind = 0; kind < DISC_KINDS; kind++)
+        print_counts("disc", table_names[kind], occasions[kind], OCCASIONS);
+    print_names(list_names, LIST_OCCASIONS);
+    for (kind = 0; kind < DISC_KINDS; kind++)
+        print_counts("writes", table_names[kind], list_occasions[kind],
+                     LIST_OCCASIONS);
+    print_names(sheet_names, SHEET_OCCASIONS);
+    print_counts("sheet", NO_DISC, sheet_occasions, SHEET_OCCASIONS);
 }
 
 static void report(void)
@@ -244,7 +276,6 @@ static void report(void)
         print_table(i);
     print_row("add", NO_DISC, sheet_answers, SHEET_NUMBERS);
     print_occasions();
-    print_sheet_occasions();
     printf("sound discs: at most %zu files, at most %zu directory sectors\n",
            most_files, most_directory);
 }

@@ -11,7 +11,7 @@
 
 enum call {
     CALL_CHECK, CALL_LIST, CALL_READ, CALL_SAVE, CALL_DELETE, CALL_RENAME,
-    CALL_PROTECT, CALL_BLANK, CALL_VIEW, CALLS
+    CALL_PROTECT, CALL_REPLAY, CALL_BLANK, CALL_VIEW, CALLS
 };
 
 /* Counts an answer, for each kind of disc and each way to state none; one that
@@ -41,6 +41,33 @@ enum occasion {
 
 /* What is stated is a kind of disc. */
 void count_occasion(struct stated stated, enum occasion occasion);
+
+/* What has to occur with lists of writes, for each kind of disc: each reason
+ * for 14, what is accepted none the less, and buffers and lists of commands. */
+enum list_occasion {
+    LIST_KIND,       /* 14: a record of another kind */
+    LIST_CUT,        /* 14: a record cut short */
+    LIST_TRACK,      /* 14: no such track */
+    LIST_SECTOR_0,   /* 14: sector 0 */
+    LIST_ABOVE,      /* 14: a sector above the last one of a track */
+    LIST_NO_END,     /* 14: no end */
+    LIST_AFTER_END,  /* 14: bytes after the end */
+    LIST_AFTER_LIST, /* 14: these bytes are a list */
+    LIST_LATE,       /* 14, where the first record would change the image */
+    LIST_ALONE,      /* 0: an end alone */
+    LIST_SYSTEM,     /* 0: 0/1 is written */
+    LIST_TWICE,      /* 0: a sector is written twice, with other bytes */
+    LIST_LONG,       /* 0: more records than any command gives */
+    LIST_BREAKS,     /* 0: a sound disc becomes unsound */
+    LIST_MENDS,      /* 0: an unsound disc becomes sound */
+    SAVE_GROWS,      /* a list of a save that makes the directory grow */
+    SAVE_LONGEST,    /* the longest list that a save gives */
+    SHORT_BY_ONE,    /* 10: one byte is missing */
+    LIST_OCCASIONS
+};
+
+/* What is stated is a kind of disc. */
+void count_list_occasion(struct stated stated, enum list_occasion occasion);
 
 /* Counts an answer of the call that adds a sheet up, which is on no disc. */
 void count_sheet_answer(uint32_t number);

@@ -50,6 +50,11 @@ size_t need(const struct state *state, size_t sheet_length)
     return module_sectors(sheet_length) + (state->file_count == slots);
 }
 
+size_t save_writes_length(const struct state *state, size_t sheet_length)
+{
+    return TANDOS_WRITES_SIZE(need(state, sheet_length) + 2);
+}
+
 uint32_t expected_list(const struct state *state, size_t buffer_length)
 {
     if (!state->is_image)
@@ -92,8 +97,17 @@ uint32_t expected_read(const struct state *state, struct text name,
     return buffer_length < file->reading.length ? TANDOS_SHORT : TANDOS_DONE;
 }
 
+/* The last refusal of the commands that give a list of this length. */
+static uint32_t unless_short(uint32_t number, size_t length,
+                             size_t buffer_length)
+{
+    if (number == TANDOS_DONE && buffer_length < length)
+        return TANDOS_SHORT;
+    return number;
+}
+
 uint32_t expected_save(const struct state *state, struct text name,
-                       const struct module *module)
+                       const struct module *module, size_t buffer_length)
 {
     uint8_t stored[TANDOS_NAME_SIZE];
     size_t length = module->sheet.length;
@@ -108,11 +122,14 @@ uint32_t expected_save(const struct state *state, struct text name,
         return TANDOS_UNSOUND;
     if (find(state, stored) != NULL)
         return TANDOS_TAKEN;
-    return need(state, length) > state->free_sectors ? TANDOS_ROOM
-                                                     : TANDOS_DONE;
+    if (need(state, length) > state->free_sectors)
+        return TANDOS_ROOM;
+    return unless_short(TANDOS_DONE, save_writes_length(state, length),
+                        buffer_length);
 }
 
-uint32_t expected_delete(const struct state *state, struct text name)
+/* The refusals of the commands on a file that must not be protected. */
+static uint32_t expected_open(const struct state *state, struct text name)
 {
     const struct file *file;
     uint32_t number = expected_standing(state, name, &file);
@@ -122,25 +139,34 @@ uint32_t expected_delete(const struct state *state, struct text name)
     return number;
 }
 
+uint32_t expected_delete(const struct state *state, struct text name,
+                         size_t buffer_length)
+{
+    return unless_short(expected_open(state, name), TANDOS_DELETE_WRITES_SIZE,
+                        buffer_length);
+}
+
 uint32_t expected_rename(const struct state *state, struct text old_name,
-                         struct text new_name)
+                         struct text new_name, size_t buffer_length)
 {
     uint8_t stored[TANDOS_NAME_SIZE];
     uint32_t number;
 
     if (state->is_image && !store_name(new_name, stored))
         return TANDOS_NAME;
-    number = expected_delete(state, old_name);
+    number = expected_open(state, old_name);
     if (number == TANDOS_DONE && find(state, stored) != NULL)
         return TANDOS_TAKEN;
-    return number;
+    return unless_short(number, TANDOS_ENTRY_WRITES_SIZE, buffer_length);
 }
 
-uint32_t expected_protect(const struct state *state, struct text name)
+uint32_t expected_protect(const struct state *state, struct text name,
+                          size_t buffer_length)
 {
     const struct file *file;
 
-    return expected_standing(state, name, &file);
+    return unless_short(expected_standing(state, name, &file),
+                        TANDOS_ENTRY_WRITES_SIZE, buffer_length);
 }
 
 uint32_t expected_blank(const struct state *state, struct text name)
@@ -157,8 +183,5 @@ uint32_t expected_view(const struct image *image, const struct state *state,
 {
     if (!state->is_image)
         return TANDOS_SIZE;
-    if (track >= tracks_of(image) || sector < 1 ||
-        sector > sectors_of(image->stated))
-        return TANDOS_NO_SECTOR;
-    return TANDOS_DONE;
+    return is_on_disc(image, track, sector) ? TANDOS_DONE : TANDOS_NO_SECTOR;
 }

@@ -60,6 +60,12 @@ size_t tracks_of(const struct image *image)
     return image->length / TANDOS_IMAGE_SIZE(1, sectors_of(image->stated));
 }
 
+int is_on_disc(const struct image *image, size_t track, size_t sector)
+{
+    return track < tracks_of(image) && sector >= 1 &&
+           sector <= sectors_of(image->stated);
+}
+
 /* The place of a sector on its track, counted from 0. */
 static size_t place_of(struct stated stated, size_t sector)
 {

@@ -50,6 +50,8 @@ size_t stated_length(struct stated stated, size_t tracks);
 
 size_t tracks_of(const struct image *image);
 
+int is_on_disc(const struct image *image, size_t track, size_t sector);
+
 /* The byte at which a sector, 1 to the last of a track, starts. */
 size_t sector_start(struct stated stated, size_t track, size_t sector);
 

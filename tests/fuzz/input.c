@@ -42,6 +42,14 @@ uint32_t take(struct input *input, unsigned byte_count)
     return number;
 }
 
+void take_bytes(struct input *input, uint8_t *to, size_t count)
+{
+    size_t i;
+
+    for (i = 0; i < count; i++)
+        to[i] = (uint8_t)take(input, 1);
+}
+
 uint32_t take_number(struct input *input)
 {
     uint32_t first = take(input, 1);

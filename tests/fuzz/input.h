@@ -23,11 +23,12 @@ enum command {
     COMMAND_CHECK,
     COMMAND_LIST,    /* buffer */
     COMMAND_READ,    /* name, buffer */
-    COMMAND_SAVE,    /* name, page, start (2), transfer (2), sheet */
+    COMMAND_SAVE,    /* name, page, start (2), transfer (2), sheet, buffer */
     COMMAND_SAVES,   /* count (1), name (1), sheet: many files */
-    COMMAND_DELETE,  /* name */
-    COMMAND_RENAME,  /* old name, new name */
-    COMMAND_PROTECT, /* name, number */
+    COMMAND_DELETE,  /* name, buffer */
+    COMMAND_RENAME,  /* old name, new name, buffer */
+    COMMAND_PROTECT, /* name, number, buffer */
+    COMMAND_REPLAY,  /* list of writes */
     COMMAND_BLANK,   /* name */
     COMMAND_VIEW,    /* track number, sector number */
     COMMAND_TEXT,    /* number */
@@ -143,9 +144,52 @@ enum damage {
     DAMAGES
 };
 
+/* A list of writes begins with one of these, by the remainder. All but the last
+ * have a damage behind them. */
+enum writes_kind {
+    WRITES_KEPT,   /* which (1): a list that a command of the run gave */
+    WRITES_JOINED, /* end (1), which (1), which (1): two of them; with an even
+                      `end` the first one's end is left out */
+    WRITES_BUILT,  /* groups (1), each a write, an end */
+    WRITES_BYTES,  /* length (2), the list's bytes; WRITES_NULL for NULL */
+    WRITES_KINDS
+};
+
+/* So many lists are kept; the last one is 0. */
+#define KEPT_MOST 4
+#define WRITES_NULL 0xFFFF
+#define WRITES_BYTES_MOST 600
+
+/* A write begins with one of these, by the remainder. From WRITE_MANY on it
+ * comes more than once: before it stands how often (2). */
+enum write_kind {
+    WRITE_ON_DISC, /* track (1), sector (1), by the remainder; fill (1) */
+    WRITE_ANY,     /* kind (1), track (1), sector (1), fill (1) */
+    WRITE_KINDS
+};
+
+#define WRITE_MANY 0xF0
+#define WRITES_MOST 600
+
+/* The bytes of a sector, otherwise made from this byte. */
+#define FILL_STANDING 0xFF /* as they stand in the image */
+
+/* What becomes of a list; from WRITES_DAMAGES on, nothing as well. */
+enum writes_damage {
+    WRITES_WHOLE,
+    WRITES_CUT,     /* length (3), by the remainder: so many bytes stay */
+    WRITES_SHORTER, /* count (1): so many bytes and one less */
+    WRITES_MORE,    /* count (1), byte (1): so many bytes and one more */
+    WRITES_BYTE,    /* place (3), byte (1) */
+    WRITES_HEAD,    /* record (2), place (1), byte (1): kind, track or sector */
+    WRITES_DAMAGES
+};
+
 #define SHEET_MOST 65537
 #define NAME_MOST 15
-#define BUFFER_MOST (65536 + 16)
+/* The longest list of writes that a command can give has 263 records of 259
+ * bytes, and one record more where it is for a sheet that is too long. */
+#define BUFFER_MOST (259 * 264 + 1 + 16)
 
 struct input {
     const uint8_t *at;
@@ -175,6 +219,7 @@ struct name {
 
 uint32_t take(struct input *input, unsigned byte_count);
 uint32_t take_number(struct input *input);
+void take_bytes(struct input *input, uint8_t *to, size_t count);
 struct stated take_stated(struct input *input);
 void take_name(struct input *input, struct name *name);
 

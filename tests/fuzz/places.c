@@ -11,12 +11,9 @@
 
 static uint8_t is_met[SECTORS_MOST];
 
-/* A link stands track first, a pointer sector first. */
-struct link {
-    size_t track, sector;
-};
+static const struct link system_link = { 0, 1 };
 
-static struct link link_at(const uint8_t *bytes)
+struct link link_at(const uint8_t *bytes)
 {
     struct link link;
 
@@ -25,7 +22,7 @@ static struct link link_at(const uint8_t *bytes)
     return link;
 }
 
-static struct link pointer_at(const uint8_t *bytes)
+struct link pointer_at(const uint8_t *bytes)
 {
     struct link link;
 
@@ -34,7 +31,7 @@ static struct link pointer_at(const uint8_t *bytes)
     return link;
 }
 
-static const uint8_t *sector_at(const struct image *image, struct link link)
+const uint8_t *sector_at(const struct image *image, struct link link)
 {
     return image->bytes +
            sector_start(image->stated, link.track, link.sector);
@@ -79,16 +76,44 @@ static size_t mark_files(const struct image *image, const uint8_t *directory)
 
         if (is_free_slot(slot))
             continue;
-        length = mark_chain(image, pointer_at(slot + 11));
+        length = mark_chain(image, pointer_at(slot + ENTRY_FIRST));
         REQUIRE_EQUAL(slot[9] + 256u * slot[10], length, "length of a chain");
         sectors += length;
     }
     return sectors;
 }
 
+static const uint8_t *entry_in(const uint8_t *directory, const uint8_t *stored)
+{
+    unsigned i;
+
+    for (i = 0; i < SLOTS; i++) {
+        const uint8_t *slot = directory + FIRST_SLOT + SLOT_SIZE * i;
+
+        if (memcmp(slot, stored, TANDOS_NAME_SIZE) == 0)
+            return slot;
+    }
+    return NULL;
+}
+
+struct standing find_entry(const struct image *image, const uint8_t *stored)
+{
+    struct standing standing = { NULL, { 0, 0 }, { 0, 0 } };
+    struct link link = pointer_at(sector_at(image, system_link) + 0x12);
+
+    while (link.sector != 0) {
+        standing.linking = standing.directory;
+        standing.directory = link;
+        standing.entry = entry_in(sector_at(image, link), stored);
+        if (standing.entry != NULL)
+            break;
+        link = link_at(sector_at(image, link));
+    }
+    return standing;
+}
+
 struct places places_of(const struct image *image)
 {
-    const struct link system_link = { 0, 1 };
     const uint8_t *system = sector_at(image, system_link);
     struct link link = pointer_at(system + 0x12);
     struct places places;

@@ -5,6 +5,7 @@
 #include "blank.h"
 #include "expected.h"
 #include "finding.h"
+#include "writes.h"
 
 /* Stands for the file of a state that has no counterpart in the other. */
 #define NONE TANDOS_MAX_FILES
@@ -97,8 +98,32 @@ static void require_absent(const struct moment *moment, struct text name)
     give_back_kept(&lent, moment->image.bytes, "read changes the image");
 }
 
+void require_replayed(const struct image *before, const struct image *after,
+                      struct text writes)
+{
+    static struct image replayed;
+
+    copy_image(&replayed, before);
+    REQUIRE_EQUAL(TANDOS_DONE, call_replay(&replayed, writes),
+                  "replay of a command's list");
+    REQUIRE(memcmp(replayed.bytes, after->bytes, after->length) == 0,
+            "replay of a command's list leaves another disc");
+}
+
+/* The list has these bytes, and does what the command did. */
+static void require_writes(const struct moment *before,
+                           const struct moment *after, struct text expected,
+                           struct text writes)
+{
+    REQUIRE_EQUAL(expected.length, writes.length, "length of a list of writes");
+    REQUIRE(memcmp(expected.bytes, writes.bytes, writes.length) == 0,
+            "a list of writes has other bytes");
+    require_replayed(&before->image, &after->image, writes);
+}
+
 void require_saved(const struct moment *before, const struct moment *after,
-                   struct text name, const struct module *module)
+                   struct text name, const struct module *module,
+                   struct text writes)
 {
     size_t length = module->sheet.length;
     size_t needed = need(&before->state, length);
@@ -122,10 +147,14 @@ void require_saved(const struct moment *before, const struct moment *after,
      * that is linked from. */
     REQUIRE(changed_sectors(&before->image, &after->image) <= needed + 2,
             "save changes other sectors");
+    require_writes(before, after,
+                   save_writes(&before->image, &after->image, file->name),
+                   writes);
+    REQUIRE(writes.length <= TANDOS_SAVE_WRITES_MAX, "a longer list of writes");
 }
 
 void require_deleted(const struct moment *before, const struct moment *after,
-                     struct text name)
+                     struct text name, struct text writes)
 {
     size_t gone = index_of(&before->state, name);
 
@@ -137,10 +166,15 @@ void require_deleted(const struct moment *before, const struct moment *after,
                    before->state.directory_sectors);
     REQUIRE(changed_bytes(&before->image, &after->image) <= DELETE_BYTES,
             "delete changes other bytes");
+    require_writes(before, after,
+                   delete_writes(&before->image, &after->image,
+                                 before->state.files[gone].name),
+                   writes);
 }
 
 void require_renamed(const struct moment *before, const struct moment *after,
-                     struct text old_name, struct text new_name)
+                     struct text old_name, struct text new_name,
+                     struct text writes)
 {
     size_t at = index_of(&before->state, old_name);
     const struct file *was = &before->state.files[at];
@@ -155,6 +189,8 @@ void require_renamed(const struct moment *before, const struct moment *after,
                    before->state.directory_sectors);
     REQUIRE(changed_bytes(&before->image, &after->image) <= TANDOS_NAME_SIZE,
             "rename changes other bytes");
+    require_writes(before, after, entry_writes(&after->image, is->name),
+                   writes);
 }
 
 /* A protected file is neither deleted nor renamed. */
@@ -167,14 +203,15 @@ static void require_refused(const struct moment *moment, struct text name)
     other_name.bytes = other;
     other_name.length = sizeof other - 1;
     copy_image(&copy, &moment->image);
-    REQUIRE_EQUAL(TANDOS_PROTECTED, call_delete(&copy, name),
+    REQUIRE_EQUAL(TANDOS_PROTECTED, call_delete(&copy, name, 0).number,
                   "delete of a protected file");
-    REQUIRE_EQUAL(TANDOS_PROTECTED, call_rename(&copy, name, other_name),
+    REQUIRE_EQUAL(TANDOS_PROTECTED,
+                  call_rename(&copy, name, other_name, 0).number,
                   "rename of a protected file");
 }
 
 void require_protected(const struct moment *before, const struct moment *after,
-                       struct text name, uint32_t on)
+                       struct text name, uint32_t on, struct text writes)
 {
     size_t at = index_of(&before->state, name);
     const struct file *was = &before->state.files[at];
@@ -189,6 +226,8 @@ void require_protected(const struct moment *before, const struct moment *after,
     REQUIRE_EQUAL(was->attribute != attribute,
                   changed_bytes(&before->image, &after->image),
                   "bytes that protect changes");
+    require_writes(before, after, entry_writes(&after->image, is->name),
+                   writes);
     if (on != 0)
         require_refused(after, name);
 }

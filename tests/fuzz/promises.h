@@ -13,15 +13,22 @@ struct moment {
     struct state state;
 };
 
+/* The first four have given this list of writes. */
 void require_saved(const struct moment *before, const struct moment *after,
-                   struct text name, const struct module *module);
+                   struct text name, const struct module *module,
+                   struct text writes);
 void require_deleted(const struct moment *before, const struct moment *after,
-                     struct text name);
+                     struct text name, struct text writes);
 void require_renamed(const struct moment *before, const struct moment *after,
-                     struct text old_name, struct text new_name);
+                     struct text old_name, struct text new_name,
+                     struct text writes);
 void require_protected(const struct moment *before, const struct moment *after,
-                       struct text name, uint32_t on);
+                       struct text name, uint32_t on, struct text writes);
 void require_blank(const struct moment *after, struct text name);
+
+/* The list, replayed on the one image, gives exactly the other. */
+void require_replayed(const struct image *before, const struct image *after,
+                      struct text writes);
 
 /* The image alone: each byte is that of the blank disc with these nine name
  * bytes. */

@@ -6,8 +6,10 @@
 #include "expected.h"
 #include "finding.h"
 #include "promises.h"
+#include "replays.h"
 #include "sheets.h"
 #include "twins.h"
+#include "writes.h"
 
 /* More would slow each execution down and reach little that is new. */
 #define COMMANDS_MOST 100
@@ -47,6 +49,21 @@ static struct change change_by(uint32_t number)
     return change;
 }
 
+/* The same for a command that gives its list of writes, which stands in
+ * `answer` and is kept. `needed` is the list's length. */
+static struct listed_change listed_by(tandos_filled filled,
+                                      size_t buffer_length, size_t needed)
+{
+    struct listed_change listed = { change_by(filled.number), { NULL, 0 },
+                                    buffer_length };
+
+    if (filled.number == TANDOS_DONE)
+        listed.writes = keep_list(filled.length);
+    else if (filled.number == TANDOS_SHORT && buffer_length + 1 == needed)
+        count_list_occasion(now->image.stated, SHORT_BY_ONE);
+    return listed;
+}
+
 /* Looks at the image that an accepted command left. */
 static void end_command(void)
 {
@@ -60,7 +77,7 @@ static void run_list(struct input *input)
     size_t files = now->state.file_count;
     size_t length = take_buffer_length(input, TANDOS_LIST_SIZE(files));
     struct lent lent = lend(now->image.bytes, now->image.length);
-    tandos_listed listed = call_list(&lent, now->image.stated, length);
+    tandos_filled listed = call_list(&lent, now->image.stated, length);
 
     REQUIRE_EQUAL(expected_list(&now->state, length), listed.number, "list");
     if (listed.number == TANDOS_DONE)
@@ -95,15 +112,19 @@ static void run_read(struct input *input)
     twin_read(&now->image, &reading, name.text, length);
 }
 
-static void save(struct text name, const struct module *module)
+static void save(struct text name, const struct module *module,
+                 size_t buffer_length)
 {
-    uint32_t number = call_save(&now->image, name, module);
+    size_t needed = save_writes_length(&now->state, module->sheet.length);
+    tandos_filled filled = call_save(&now->image, name, module, buffer_length);
+    struct listed_change listed = listed_by(filled, buffer_length, needed);
 
-    REQUIRE_EQUAL(expected_save(&now->state, name, module), number, "save");
-    twin_save(change_by(number), name, module);
-    if (number == TANDOS_DONE) {
+    REQUIRE_EQUAL(expected_save(&now->state, name, module, buffer_length),
+                  filled.number, "save");
+    twin_save(listed, name, module);
+    if (filled.number == TANDOS_DONE) {
         end_command();
-        require_saved(before, now, name, module);
+        require_saved(before, now, name, module, listed.writes);
     }
 }
 
@@ -117,11 +138,13 @@ static void run_save(struct input *input)
     module.start = (uint16_t)take(input, 2);
     module.transfer = (uint16_t)take(input, 2);
     module.sheet = take_sheet(input);
-    save(name.text, &module);
+    save(name.text, &module,
+         take_buffer_length(input, save_writes_length(&now->state,
+                                                      module.sheet.length)));
 }
 
 /* Few bytes of input for many files, so that directories of many sectors are
- * reached. */
+ * reached. Each buffer is just long enough. */
 static void run_saves(struct input *input)
 {
     unsigned count = take(input, 1) % SAVES_MOST;
@@ -133,56 +156,103 @@ static void run_saves(struct input *input)
 
         put_legal_name(&name, which++ % NAME_TYPED);
         begin_command();
-        save(name.text, &module);
+        save(name.text, &module,
+             save_writes_length(&now->state, module.sheet.length));
     }
 }
 
 static void run_delete(struct input *input)
 {
     struct name name;
-    uint32_t number;
+    size_t length;
+    tandos_filled filled;
+    struct listed_change listed;
 
     take_name(input, &name);
-    number = call_delete(&now->image, name.text);
-    REQUIRE_EQUAL(expected_delete(&now->state, name.text), number, "delete");
-    twin_delete(change_by(number), name.text);
-    if (number == TANDOS_DONE) {
+    length = take_buffer_length(input, TANDOS_DELETE_WRITES_SIZE);
+    filled = call_delete(&now->image, name.text, length);
+    listed = listed_by(filled, length, TANDOS_DELETE_WRITES_SIZE);
+    REQUIRE_EQUAL(expected_delete(&now->state, name.text, length),
+                  filled.number, "delete");
+    twin_delete(listed, name.text);
+    if (filled.number == TANDOS_DONE) {
         end_command();
-        require_deleted(before, now, name.text);
+        require_deleted(before, now, name.text, listed.writes);
     }
 }
 
 static void run_rename(struct input *input)
 {
     struct name old_name, new_name;
-    uint32_t number;
+    size_t length;
+    tandos_filled filled;
+    struct listed_change listed;
 
     take_name(input, &old_name);
     take_name(input, &new_name);
-    number = call_rename(&now->image, old_name.text, new_name.text);
-    REQUIRE_EQUAL(expected_rename(&now->state, old_name.text, new_name.text),
-                  number, "rename");
-    twin_rename(change_by(number), old_name.text, new_name.text);
-    if (number == TANDOS_DONE) {
+    length = take_buffer_length(input, TANDOS_ENTRY_WRITES_SIZE);
+    filled = call_rename(&now->image, old_name.text, new_name.text, length);
+    listed = listed_by(filled, length, TANDOS_ENTRY_WRITES_SIZE);
+    REQUIRE_EQUAL(expected_rename(&now->state, old_name.text, new_name.text,
+                                  length),
+                  filled.number, "rename");
+    twin_rename(listed, old_name.text, new_name.text);
+    if (filled.number == TANDOS_DONE) {
         end_command();
-        require_renamed(before, now, old_name.text, new_name.text);
+        require_renamed(before, now, old_name.text, new_name.text,
+                        listed.writes);
     }
 }
 
 static void run_protect(struct input *input)
 {
     struct name name;
-    uint32_t on, number;
+    uint32_t on;
+    size_t length;
+    tandos_filled filled;
+    struct listed_change listed;
 
     take_name(input, &name);
     on = take_number(input);
-    number = call_protect(&now->image, name.text, on);
-    REQUIRE_EQUAL(expected_protect(&now->state, name.text), number, "protect");
-    twin_protect(change_by(number), name.text, on);
-    if (number == TANDOS_DONE) {
+    length = take_buffer_length(input, TANDOS_ENTRY_WRITES_SIZE);
+    filled = call_protect(&now->image, name.text, on, length);
+    listed = listed_by(filled, length, TANDOS_ENTRY_WRITES_SIZE);
+    REQUIRE_EQUAL(expected_protect(&now->state, name.text, length),
+                  filled.number, "protect");
+    twin_protect(listed, name.text, on);
+    if (filled.number == TANDOS_DONE) {
         end_command();
-        require_protected(before, now, name.text, on);
+        require_protected(before, now, name.text, on, listed.writes);
     }
+}
+
+/* The disc is from here on whatever the list made of it. */
+static void end_replay(void)
+{
+    int was_sound = now->state.is_sound;
+
+    is_state_known = 0;
+    know_state();
+    if (was_sound && !now->state.is_sound)
+        count_list_occasion(now->image.stated, LIST_BREAKS);
+    if (!was_sound && now->state.is_sound)
+        count_list_occasion(now->image.stated, LIST_MENDS);
+}
+
+static void run_replay(struct input *input)
+{
+    static struct image expected;
+    struct text writes = take_list(input, &now->image);
+    uint32_t number;
+
+    copy_image(&expected, &now->image);
+    number = expected_replay(&expected, writes);
+    REQUIRE_EQUAL(number, call_replay(&now->image, writes), "replay");
+    REQUIRE(memcmp(expected.bytes, now->image.bytes, expected.length) == 0,
+            "a replay leaves another image");
+    twin_replay(change_by(number), writes);
+    if (number == TANDOS_DONE)
+        end_replay();
 }
 
 static void run_blank(struct input *input)
@@ -221,7 +291,7 @@ static void run_text(struct input *input)
     uint32_t number = take_number(input);
     int is_unknown = strcmp(tandos_refusal_name(number), "?") == 0;
 
-    REQUIRE(is_unknown == (number > TANDOS_TOTAL), "name of a number");
+    REQUIRE(is_unknown == (number > TANDOS_BAD_LIST), "name of a number");
     REQUIRE(strlen(tandos_refusal_text(number)) > 0, "text of a number");
     REQUIRE(strlen(tandos_rule_text(number)) > 0, "text of a rule");
 }
@@ -305,6 +375,7 @@ static int run_call(enum command command, struct input *input)
         [COMMAND_DELETE] = run_delete,
         [COMMAND_RENAME] = run_rename,
         [COMMAND_PROTECT] = run_protect,
+        [COMMAND_REPLAY] = run_replay,
         [COMMAND_BLANK] = run_blank,
         [COMMAND_VIEW] = run_view
     };
@@ -420,6 +491,7 @@ void run_input(struct input *input)
 
     is_state_known = 0;
     begin_totals();
+    begin_lists();
     now->image.stated = take_stated(input);
     if (start == START_BLANK)
         start_blank(input);

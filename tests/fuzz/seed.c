@@ -49,10 +49,55 @@ static void put_save(int name)
     put(COMMAND_SAVE, name, 1, 0x00, 0x00, 0x00, 0x20, -1);
 }
 
-void save(int name, enum sheet sheet)
+void save_lent(int name, enum sheet sheet, enum buffer buffer)
 {
     put_save(name);
-    put((int)sheet, name, -1);
+    put((int)sheet, name, (int)buffer, -1);
+}
+
+void delete_lent(int name, enum buffer buffer)
+{
+    put(COMMAND_DELETE, name, (int)buffer, -1);
+}
+
+void rename_lent(int old_name, int new_name, enum buffer buffer)
+{
+    put(COMMAND_RENAME, old_name, new_name, (int)buffer, -1);
+}
+
+void protect_lent(int name, int on, enum buffer buffer)
+{
+    put(COMMAND_PROTECT, name, on, (int)buffer, -1);
+}
+
+void save(int name, enum sheet sheet)
+{
+    save_lent(name, sheet, BUFFER_EXACT);
+}
+
+void delete(int name)
+{
+    delete_lent(name, BUFFER_EXACT);
+}
+
+void rename_to(int old_name, int new_name)
+{
+    rename_lent(old_name, new_name, BUFFER_EXACT);
+}
+
+void protect(int name, int on)
+{
+    protect_lent(name, on, BUFFER_EXACT);
+}
+
+void replay(int which)
+{
+    put(COMMAND_REPLAY, WRITES_KEPT, which, WRITES_WHOLE, -1);
+}
+
+void replay_nothing(void)
+{
+    put(COMMAND_REPLAY, WRITES_BYTES, 0, 0, -1);
 }
 
 void save_sectors(int name, int sectors, int more)
@@ -60,7 +105,7 @@ void save_sectors(int name, int sectors, int more)
     int length = 245 + 253 * (sectors - 1) + more;
 
     put_save(name);
-    put(SHEET_LENGTH, length & 0xFF, length >> 8, name, -1);
+    put(SHEET_LENGTH, length & 0xFF, length >> 8, name, BUFFER_EXACT, -1);
 }
 
 void save_many(int first, int count)
@@ -78,8 +123,13 @@ void resize(int sectors, int more)
 void put_calls(int name)
 {
     put(COMMAND_LIST, BUFFER_LARGEST, COMMAND_READ, name, BUFFER_LARGEST, -1);
-    put(COMMAND_VIEW, 0, 1, COMMAND_RENAME, name, name + 1, -1);
-    put(COMMAND_PROTECT, name, 1, COMMAND_DELETE, name, COMMAND_BLANK, 0, -1);
+    put(COMMAND_VIEW, 0, 1, -1);
+    replay(0);
+    replay_nothing();
+    rename_to(name, name + 1);
+    protect(name, 1);
+    delete(name);
+    put(COMMAND_BLANK, 0, -1);
     save(name + 3, SHEET_1);
 }
 

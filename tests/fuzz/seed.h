@@ -23,7 +23,23 @@ void begin(int tracks);
 /* Appends bytes, given as int, up to the first that is negative. */
 void put(int byte, ...);
 
+/* The commands that give a list of writes, with a buffer that just holds it. */
 void save(int name, enum sheet sheet);
+void delete(int name);
+void rename_to(int old_name, int new_name);
+void protect(int name, int on);
+
+/* The same with another buffer. */
+void save_lent(int name, enum sheet sheet, enum buffer buffer);
+void delete_lent(int name, enum buffer buffer);
+void rename_lent(int old_name, int new_name, enum buffer buffer);
+void protect_lent(int name, int on, enum buffer buffer);
+
+/* The list that a command gave, 0 for the last one, replayed as it is. */
+void replay(int which);
+
+/* No bytes, which are no list. */
+void replay_nothing(void);
 
 /* One file that fills so many sectors, and `more` bytes. */
 void save_sectors(int name, int sectors, int more);

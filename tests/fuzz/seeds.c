@@ -10,6 +10,7 @@
 #include "seed.h"
 #include "seeds_sheets.h"
 #include "seeds_stated.h"
+#include "seeds_writes.h"
 
 /* On a disc of one track: 0/4 is the directory, 0/7 the first free sector. */
 #define SECTOR_DIRECTORY 3
@@ -29,11 +30,17 @@ static void seed_commands(void)
     put(COMMAND_LIST, BUFFER_EXACT, COMMAND_LIST, BUFFER_ONE_LESS, -1);
     put(COMMAND_READ, 0, BUFFER_EXACT, COMMAND_READ, 0, BUFFER_ONE_LESS, -1);
     put(COMMAND_READ, 1, BUFFER_LARGEST, COMMAND_READ, 9, BUFFER_EMPTY, -1);
-    put(COMMAND_PROTECT, 0, 1, COMMAND_DELETE, 0, COMMAND_RENAME, 0, 2, -1);
-    put(COMMAND_PROTECT, 0, 0, COMMAND_RENAME, 0, 2, COMMAND_DELETE, 2, -1);
-    put(COMMAND_RENAME, 1, 1, COMMAND_DELETE, 7, COMMAND_CHECK, -1);
-    put(COMMAND_VIEW, 0, 1, COMMAND_VIEW, 1, 1, COMMAND_VIEW, 0, 0, -1);
-    put(COMMAND_VIEW, NUMBER_WIDE, 0, 1, 0, 0, 1, COMMAND_TEXT, 13, -1);
+    protect(0, 1);
+    delete(0);
+    rename_to(0, 2);
+    protect(0, 0);
+    rename_to(0, 2);
+    delete(2);
+    rename_to(1, 1);
+    delete(7);
+    put(COMMAND_CHECK, COMMAND_VIEW, 0, 1, COMMAND_VIEW, 1, 1, -1);
+    put(COMMAND_VIEW, 0, 0, COMMAND_VIEW, NUMBER_WIDE, 0, 1, 0, 0, 1, -1);
+    put(COMMAND_TEXT, 14, COMMAND_TEXT, 15, -1);
     put(COMMAND_BLANK, NAME_TYPED + 2, 'A', '9', COMMAND_BLANK, NAME_NULL, -1);
     end("commands");
 }
@@ -44,9 +51,12 @@ static void seed_refusals(void)
     save(0, SHEET_1);
     save(0, SHEET_1);
     put(COMMAND_READ, NAME_NULL, BUFFER_EMPTY, COMMAND_READ, 1, 0, -1);
-    put(COMMAND_RENAME, NAME_NULL, 1, COMMAND_RENAME, 0, NAME_NULL, -1);
-    put(COMMAND_RENAME, 1, 2, COMMAND_RENAME, 1, 0, -1);
-    put(COMMAND_PROTECT, NAME_NULL, 1, COMMAND_PROTECT, 1, 1, -1);
+    rename_to(NAME_NULL, 1);
+    rename_to(0, NAME_NULL);
+    rename_to(1, 2);
+    rename_to(1, 0);
+    protect(NAME_NULL, 1);
+    protect(1, 1);
     end("refusals");
 }
 
@@ -56,7 +66,7 @@ static void seed_full(void)
     save_sectors(0, free_of(1), 1);
     save_sectors(0, free_of(1), 0);
     save(1, SHEET_1);
-    put(COMMAND_DELETE, 0, -1);
+    delete(0);
     save(1, SHEET_1);
     save(2, SHEET_752);
     end("full");
@@ -69,7 +79,7 @@ static void seed_no_room_for_directory(void)
     save_many(0, 14);
     save_sectors(14, free_of(3) - 14 - 1, 0);
     save(15, SHEET_1);
-    put(COMMAND_DELETE, 14, -1);
+    delete(14);
     save_sectors(15, free_of(3) - 14 - 2, 0);
     save(16, SHEET_1);
     end("directory-no-room");
@@ -79,7 +89,7 @@ static void seed_directory(void)
 {
     begin(2);
     save_many(0, 17);
-    put(COMMAND_DELETE, 3, -1);
+    delete(3);
     save(40, SHEET_246);
     save(41, SHEET_1);
     end("directory");
@@ -88,14 +98,17 @@ static void seed_directory(void)
     begin(2);
     save_many(0, 17);
     save_many(17, free_of(3) - 17);
-    put(COMMAND_DELETE, 0, COMMAND_DELETE, 16, -1);
+    delete(0);
+    delete(16);
     save(50, SHEET_246);
     save(51, SHEET_245);
     end("directory-full");
     begin(3);
     save_many(0, 19);
     save_many(19, 17);
-    put(COMMAND_DELETE, 31, COMMAND_RENAME, 30, 31, COMMAND_LIST, 0, -1);
+    delete(31);
+    rename_to(30, 31);
+    put(COMMAND_LIST, 0, -1);
     end("directory-three");
     /* 225 is 16 tracks. */
     begin(225);
@@ -103,7 +116,9 @@ static void seed_directory(void)
     save_many(19, 19);
     save_many(38, 19);
     save_many(57, 19);
-    put(COMMAND_DELETE, 14, COMMAND_DELETE, 74, COMMAND_LIST, 0, -1);
+    delete(14);
+    delete(74);
+    put(COMMAND_LIST, 0, -1);
     save(150, SHEET_1);
     end("directory-many");
 }
@@ -112,18 +127,20 @@ static void seed_large(void)
 {
     /* 224 and 239 are 65 and 50 tracks. */
     begin(224);
-    put(COMMAND_SAVE, 0, 7, 0, 0, 0xFF, 0xFF, SHEET_65536, 1, -1);
-    put(COMMAND_SAVE, 1, 7, 1, 0, 0xFF, 0xFF, SHEET_65535, 1, -1);
-    put(COMMAND_SAVE, 2, 7, 1, 0, 0xFF, 0xFF, SHEET_65536, 1, -1);
-    put(COMMAND_SAVE, 3, 7, 0, 0, 0, 0, SHEET_65537, 1, -1);
-    put(COMMAND_READ, 0, BUFFER_ONE_LESS, COMMAND_DELETE, 0, -1);
+    put(COMMAND_SAVE, 0, 7, 0, 0, 0xFF, 0xFF, SHEET_65536, 1, BUFFER_EXACT, -1);
+    put(COMMAND_SAVE, 1, 7, 1, 0, 0xFF, 0xFF, SHEET_65535, 1, BUFFER_EXACT, -1);
+    put(COMMAND_SAVE, 2, 7, 1, 0, 0xFF, 0xFF, SHEET_65536, 1, BUFFER_EXACT, -1);
+    put(COMMAND_SAVE, 3, 7, 0, 0, 0, 0, SHEET_65537, 1, BUFFER_EXACT, -1);
+    put(COMMAND_READ, 0, BUFFER_ONE_LESS, -1);
+    delete(0);
     end("large");
     begin(239);
     save(0, SHEET_4293);
-    put(COMMAND_SAVE, 1, 8, 0, 0, 0, 0, SHEET_1, 1, -1);
+    put(COMMAND_SAVE, 1, 8, 0, 0, 0, 0, SHEET_1, 1, BUFFER_EXACT, -1);
     put(COMMAND_SAVE, 1, NUMBER_WIDE, 0, 1, 0, 0, 0, 0, 0, 0, SHEET_1, 1, -1);
-    put(COMMAND_SAVE, 1, 0, 0, 0, 0, 0, SHEET_0, 1, -1);
-    put(COMMAND_DELETE, 0, -1);
+    put(BUFFER_EXACT, -1);
+    put(COMMAND_SAVE, 1, 0, 0, 0, 0, 0, SHEET_0, 1, BUFFER_EXACT, -1);
+    delete(0);
     end("pages");
 }
 
@@ -147,8 +164,10 @@ static void seed_wide_numbers(void)
 {
     begin(0);
     save(0, SHEET_1);
-    put(COMMAND_PROTECT, 0, NUMBER_WIDE, 0, 1, 0, 0, COMMAND_DELETE, 0, -1);
-    put(COMMAND_PROTECT, 0, NUMBER_WIDE, 0, 0, 1, 0, COMMAND_DELETE, 0, -1);
+    put(COMMAND_PROTECT, 0, NUMBER_WIDE, 0, 1, 0, 0, BUFFER_EXACT, -1);
+    delete(0);
+    put(COMMAND_PROTECT, 0, NUMBER_WIDE, 0, 0, 1, 0, BUFFER_EXACT, -1);
+    delete(0);
     put(COMMAND_VIEW, NUMBER_WIDE, 0, 0, 1, 0, 1, -1);
     put(COMMAND_VIEW, 0, NUMBER_WIDE, seed_sectors, 1, 0, 0, -1);
     put(COMMAND_VIEW, 0, NUMBER_WIDE, 1, 0, 1, 0, -1);
@@ -174,8 +193,9 @@ static void seed_names(void)
     begin(0);
     for (i = 0; i < sizeof names / sizeof names[0]; i++) {
         put_typed(COMMAND_DELETE, names[i]);
+        put(BUFFER_EXACT, -1);
         put_typed(COMMAND_SAVE, names[i]);
-        put(0, 0, 0, 0, 0, SHEET_1, 5, -1);
+        put(0, 0, 0, 0, 0, SHEET_1, 5, BUFFER_EXACT, -1);
         put_typed(COMMAND_BLANK, names[i]);
     }
     end("names");
@@ -208,7 +228,9 @@ static void seed_rules(void)
         put(rule == 8 ? 0 : COMMAND_CHECK, COMMAND_CHECK, -1);
         save(2, SHEET_1);
         put(COMMAND_READ, 0, BUFFER_EXACT, COMMAND_LIST, 0, -1);
-        put(COMMAND_DELETE, 0, COMMAND_RENAME, 0, 5, COMMAND_PROTECT, 0, 1, -1);
+        delete(0);
+        rename_to(0, 5);
+        protect(0, 1);
         snprintf(name, sizeof name, "rule-%d", rule);
         end(name);
     }
@@ -220,17 +242,20 @@ static void seed_unusual(void)
     begin(0);
     save(0, SHEET_246);
     put(COMMAND_BYTE, SECTOR_DIRECTORY, 0, 3 + 9, 1, COMMAND_SYSTEM, 6, 1, -1);
-    put(COMMAND_READ, 0, BUFFER_EXACT, COMMAND_DELETE, 0, -1);
+    put(COMMAND_READ, 0, BUFFER_EXACT, -1);
+    delete(0);
     end("chain-goes-on");
     begin(0);
     save(0, SHEET_246);
     put(COMMAND_BYTE, SECTOR_FIRST_FREE, 0, 2, 0xFE, -1);
-    put(COMMAND_READ, 0, BUFFER_EXACT, COMMAND_DELETE, 0, -1);
+    put(COMMAND_READ, 0, BUFFER_EXACT, -1);
+    delete(0);
     end("not-plain");
     begin_empty();
     put(START_BYTES, seed_kind, 0x00, seed_sectors, 0x00, -1);
     put(COMMAND_CHECK, COMMAND_LIST, BUFFER_LARGEST, -1);
-    put(COMMAND_BLANK, 0, COMMAND_READ, 0, 0, COMMAND_DELETE, 0, -1);
+    put(COMMAND_BLANK, 0, COMMAND_READ, 0, 0, -1);
+    delete(0);
     end("bytes");
 }
 
@@ -344,6 +369,7 @@ static void write_seeds(void)
     seed_above();
     seed_above_entry();
     seed_views();
+    write_writes_seeds();
     write_stated_seeds();
 }
 

@@ -28,6 +28,14 @@ static void put_command(struct bytes stated, int command, int one, int other)
     put(command, one, other, -1);
 }
 
+/* A command with a buffer for its list of writes. */
+static void put_listed(struct bytes stated, int command,
+                       struct bytes arguments, enum buffer buffer)
+{
+    put_command(stated, command, arguments.first, arguments.second);
+    put((int)buffer, -1);
+}
+
 /* Each call with this stated and arguments that are right. */
 static void put_right_calls(struct bytes stated)
 {
@@ -37,9 +45,11 @@ static void put_right_calls(struct bytes stated)
     put_command(stated, COMMAND_VIEW, 0, 2);
     put_stated(stated);
     save(1, SHEET_1);
-    put_command(stated, COMMAND_RENAME, 0, 2);
-    put_command(stated, COMMAND_PROTECT, 0, 1);
-    put_command(stated, COMMAND_DELETE, 0, -1);
+    put_listed(stated, COMMAND_RENAME, bytes_of(0, 2), BUFFER_EXACT);
+    put_listed(stated, COMMAND_PROTECT, bytes_of(0, 1), BUFFER_EXACT);
+    put_stated(stated);
+    replay(0);
+    put_listed(stated, COMMAND_DELETE, bytes_of(0, -1), BUFFER_EXACT);
     put_command(stated, COMMAND_BLANK, 0, -1);
 }
 
@@ -50,10 +60,14 @@ static void put_refused_calls(struct bytes stated)
     put_command(stated, COMMAND_READ, NAME_NULL, BUFFER_EMPTY);
     put_command(stated, COMMAND_VIEW, 0, 11);
     put_stated(stated);
-    save(NAME_NULL, SHEET_0);
-    put_command(stated, COMMAND_RENAME, 0, NAME_NULL);
-    put_command(stated, COMMAND_PROTECT, NAME_NULL, 1);
-    put_command(stated, COMMAND_DELETE, NAME_NULL, -1);
+    save_lent(NAME_NULL, SHEET_0, BUFFER_EMPTY);
+    put_listed(stated, COMMAND_RENAME, bytes_of(0, NAME_NULL), BUFFER_EMPTY);
+    put_listed(stated, COMMAND_PROTECT, bytes_of(NAME_NULL, 1), BUFFER_EMPTY);
+    put_listed(stated, COMMAND_DELETE, bytes_of(NAME_NULL, -1), BUFFER_EMPTY);
+    put_stated(stated);
+    put(COMMAND_REPLAY, WRITES_KEPT, 0, WRITES_SHORTER, 0, -1);
+    put_stated(stated);
+    replay_nothing();
     put_command(stated, COMMAND_BLANK, NAME_NULL, -1);
 }
 

@@ -71,14 +71,6 @@ static void put_word(uint8_t *to, uint32_t word)
     to[1] = (uint8_t)(word >> 8);
 }
 
-static void take_bytes(struct input *input, uint8_t *to, size_t count)
-{
-    size_t i;
-
-    for (i = 0; i < count; i++)
-        to[i] = (uint8_t)take(input, 1);
-}
-
 static void take_record(struct input *input, uint32_t kind, uint8_t *record)
 {
     switch (kind % RECORD_KINDS) {

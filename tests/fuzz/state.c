@@ -71,7 +71,7 @@ static void take_file_record(struct file *file, const uint8_t *record)
 static void take_list(struct state *state, const struct lent *lent,
                       struct stated stated)
 {
-    tandos_listed listed = call_list(lent, stated, TANDOS_LIST_MAX);
+    tandos_filled listed = call_list(lent, stated, TANDOS_LIST_MAX);
     size_t frame = TANDOS_LIST_SIZE(0);
     size_t i;
 
@@ -163,6 +163,7 @@ void look(const struct image *image, struct state *state)
     size_t i;
 
     take_check(state, image, &lent);
+    state->directory_sectors = 0;
     state->file_count = 0;
     if (state->is_sound) {
         take_list(state, &lent, image->stated);

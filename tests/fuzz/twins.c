@@ -4,6 +4,7 @@
 
 #include "counters.h"
 #include "finding.h"
+#include "promises.h"
 
 static struct image twin;
 
@@ -53,11 +54,11 @@ void twin_check(const struct image *image, tandos_checked checked)
     end_reading(&lent);
 }
 
-void twin_list(const struct image *image, tandos_listed listed,
+void twin_list(const struct image *image, tandos_filled listed,
                size_t buffer_length)
 {
     struct lent lent;
-    tandos_listed found;
+    tandos_filled found;
 
     if (!begin_twin(image))
         return;
@@ -118,30 +119,55 @@ static void end_writing(struct change change, uint32_t found)
             "a call leaves another disc in the other arrangement");
 }
 
-void twin_save(struct change change, struct text name,
+static void end_listed(const struct listed_change *listed, tandos_filled found)
+{
+    static struct image old_twin;
+
+    REQUIRE_EQUAL(listed->change.number, found.number, "number of the twin");
+    REQUIRE_EQUAL(listed->writes.length, found.length,
+                  "length of the twin's list of writes");
+    if (found.number == TANDOS_DONE) {
+        REQUIRE(memcmp(listed->writes.bytes, answer, found.length) == 0,
+                "the twin's list of writes differs");
+        rearrange(&old_twin, listed->change.before);
+        require_replayed(&old_twin, &twin, listed->writes);
+    }
+    end_writing(listed->change, found.number);
+}
+
+void twin_save(struct listed_change listed, struct text name,
                const struct module *module)
 {
-    if (begin_twin(change.before))
-        end_writing(change, call_save(&twin, name, module));
+    if (begin_twin(listed.change.before))
+        end_listed(&listed,
+                   call_save(&twin, name, module, listed.buffer_length));
 }
 
-void twin_delete(struct change change, struct text name)
+void twin_delete(struct listed_change listed, struct text name)
 {
-    if (begin_twin(change.before))
-        end_writing(change, call_delete(&twin, name));
+    if (begin_twin(listed.change.before))
+        end_listed(&listed, call_delete(&twin, name, listed.buffer_length));
 }
 
-void twin_rename(struct change change, struct text old_name,
+void twin_rename(struct listed_change listed, struct text old_name,
                  struct text new_name)
 {
-    if (begin_twin(change.before))
-        end_writing(change, call_rename(&twin, old_name, new_name));
+    if (begin_twin(listed.change.before))
+        end_listed(&listed, call_rename(&twin, old_name, new_name,
+                                        listed.buffer_length));
 }
 
-void twin_protect(struct change change, struct text name, uint32_t on)
+void twin_protect(struct listed_change listed, struct text name, uint32_t on)
+{
+    if (begin_twin(listed.change.before))
+        end_listed(&listed,
+                   call_protect(&twin, name, on, listed.buffer_length));
+}
+
+void twin_replay(struct change change, struct text writes)
 {
     if (begin_twin(change.before))
-        end_writing(change, call_protect(&twin, name, on));
+        end_writing(change, call_replay(&twin, writes));
 }
 
 void twin_blank(struct change change, struct text name)

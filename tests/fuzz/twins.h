@@ -19,7 +19,7 @@
 /* After calls that read. What a list or read gave stands in `answer`, before
  * and after. */
 void twin_check(const struct image *image, tandos_checked checked);
-void twin_list(const struct image *image, tandos_listed listed,
+void twin_list(const struct image *image, tandos_filled listed,
                size_t buffer_length);
 void twin_read(const struct image *image, const tandos_reading *reading,
                struct text name, size_t buffer_length);
@@ -32,12 +32,21 @@ struct change {
     uint32_t number;
 };
 
-void twin_save(struct change change, struct text name,
+/* The change of a command that gives its list of writes; none with a refusal.
+ * The list is the twin's too, also where it is replayed. */
+struct listed_change {
+    struct change change;
+    struct text writes;
+    size_t buffer_length;
+};
+
+void twin_save(struct listed_change listed, struct text name,
                const struct module *module);
-void twin_delete(struct change change, struct text name);
-void twin_rename(struct change change, struct text old_name,
+void twin_delete(struct listed_change listed, struct text name);
+void twin_rename(struct listed_change listed, struct text old_name,
                  struct text new_name);
-void twin_protect(struct change change, struct text name, uint32_t on);
+void twin_protect(struct listed_change listed, struct text name, uint32_t on);
+void twin_replay(struct change change, struct text writes);
 void twin_blank(struct change change, struct text name);
 
 #endif

@@ -9,6 +9,7 @@ use crate::pair::Pair;
 use crate::sheet_case::{record, SheetCase, TOO_HIGH};
 use crate::sheet_tally::Mark;
 use crate::table::{orders_fault, Table, DONE, LIMIT, TOTAL, WORKERS};
+use crate::writing::LONGEST_LIST;
 use reference::command::{Answer, Buffer, Command};
 use reference::generate::{edge_sheet, good_sheet, spoil, totals_run, Random, Spoil, TotalsRun};
 
@@ -113,7 +114,7 @@ impl Driver {
         by_disc: bool,
         place: &mut Place,
     ) -> Ended {
-        let mut disc = by_disc.then(|| some_disc(random));
+        let mut disc = by_disc.then(|| self.some_disc(random));
         let mut table = Table::new(random, &list.totals, self.add_sheet);
         let mut ended = Ended::Accepted;
         for sheet in &list.sheets {
@@ -143,13 +144,7 @@ impl Driver {
         place: Place,
     ) -> Option<Vec<u8>> {
         let name = format!("S{}", place.command).into_bytes();
-        let save = Command::Save {
-            name: name.clone(),
-            page: 0,
-            start: 0,
-            transfer: 0,
-            sheet: sheet.to_vec(),
-        };
+        let save = save(random, &name, sheet);
         if !self.step(random, disc, &save, None, place)?.accepted() {
             return Some(sheet.to_vec());
         }
@@ -171,6 +166,14 @@ impl Driver {
                 None
             }
         }
+    }
+
+    /// A blank disc on which some of the sheets have room.
+    fn some_disc(&self, random: &mut Random) -> Pair {
+        let kind = random.pick(&Kind::ALL);
+        let tracks = random.between(1, 4);
+        let image = discs::blank(random, kind, tracks);
+        Pair::new(random, image, kind.numbers(), self.writing)
     }
 
     /// Hands a sheet to both programs; the answer, if all was as it should be.
@@ -203,12 +206,18 @@ impl Driver {
     }
 }
 
-/// A blank disc on which some of the sheets have room.
-fn some_disc(random: &mut Random) -> Pair {
-    let kind = random.pick(&Kind::ALL);
-    let tracks = random.between(1, 4);
-    let image = discs::blank(random, kind, tracks);
-    Pair::new(random, image, kind.numbers())
+fn save(random: &mut Random, name: &[u8], sheet: &[u8]) -> Command {
+    Command::Save {
+        name: name.to_vec(),
+        page: 0,
+        start: 0,
+        transfer: 0,
+        sheet: sheet.to_vec(),
+        writes: Buffer {
+            length: LONGEST_LIST,
+            fill: random.byte(),
+        },
+    }
 }
 
 fn some_list(random: &mut Random) -> TotalsRun {

@@ -7,7 +7,8 @@ use crate::met::Size;
 use std::collections::BTreeMap;
 use std::fmt::{Formatter, Result};
 
-const LAST_NUMBER: u32 = 11;
+/// Those of calls on an image.
+const NUMBERS: [u32; 13] = [0, 1, 2, 3, 4, 5, 6, 7, 8, 9, 10, 11, 14];
 
 impl Tally {
     pub fn write(&self, out: &mut Formatter<'_>) -> Result {
@@ -27,13 +28,13 @@ impl Tally {
     /// How often each call gave each number, as a table.
     pub fn write_answers(&self, out: &mut Formatter<'_>) -> Result {
         write!(out, "{:8}", "answer")?;
-        for number in 0..=LAST_NUMBER {
+        for number in NUMBERS {
             write!(out, "{number:>9}")?;
         }
         writeln!(out)?;
         for call in Call::ALL {
             write!(out, "{:8}", call.name())?;
-            for number in 0..=LAST_NUMBER {
+            for number in NUMBERS {
                 match self.answers.get(&(call, number)) {
                     Some(count) => write!(out, "{count:>9}")?,
                     None => write!(out, "{:>9}", "-")?,
@@ -84,7 +85,8 @@ impl Tally {
             "views of the sector after the last: {}",
             self.after_last
         )?;
-        writeln!(out, "moments of demand 3 checked: {}", self.moments)
+        writeln!(out, "moments of demand 3 checked: {}", self.moments)?;
+        self.lists.write(out)
     }
 }
 

@@ -12,8 +12,10 @@ use Rattle.format.specs.Names.{stored}
 use Rattle.format.specs.Layout.{namePlace, attributePlace, attribute, Slot, attributeOf, isProtected, protectedAs, find}
 use Rattle.format.specs.Effects.{slotWrite, deleteWrites}
 use Rattle.format.specs.Calls.{deleteOn, renameOn, protectOn}
-use Rattle.lookup.specs.Meaning.{entryOn, Refuses}
-use Rattle.lookup.specs.Laws.{entry-then, refuses-then}
+use Rattle.answers.specs.Meaning.{Refuses}
+use Rattle.answers.specs.Laws.{refuses-then}
+use Rattle.lookup.specs.Meaning.{entryOn}
+use Rattle.lookup.specs.Laws.{entry-then}
 use Rattle.commands.specs.Meaning.{renameTo}
 
 -- ---- delete

@@ -3,6 +3,9 @@ use libc::STDOUT_FILENO;
 
 const TRACK: usize = 2560;
 
+// Room for the list of five writes, the most that a command here makes.
+const WRITES: usize = 5 * 259 + 1;
+
 fn main() {
     sectors_for_lengths();
     directory_growth();
@@ -26,8 +29,19 @@ fn word(low: u8, high: u8) -> u64 {
 fn sectors_taken(sheet: &[u8]) {
     let mut image = [0u8; TRACK];
     let mut records = [0u8; 64];
+    let mut writes = [0u8; WRITES];
     tandos::tandos_blank(&mut image, 10, 0, b"LENGTHS");
-    tandos::tandos_save(&mut image, 10, 0, b"SHEET", 0, 0x2000, 0x2000, sheet);
+    tandos::tandos_save(
+        &mut image,
+        10,
+        0,
+        b"SHEET",
+        0,
+        0x2000,
+        0x2000,
+        sheet,
+        &mut writes,
+    );
     tandos::tandos_list(&image, 10, 0, &mut records);
     number(sheet.len() as u64);
     text(b" bytes take ");
@@ -49,10 +63,22 @@ fn sectors_for_lengths() {
 fn save_letter(image: &mut [u8], letter: u8) {
     let name = [letter];
     let mut records = [0u8; 512];
+    let mut writes = [0u8; WRITES];
     text(b"save ");
     text(&name);
     text(b": ");
-    number(tandos::tandos_save(image, 10, 0, &name, 0, 0x2000, 0x2000, b"12 trousers") as u64);
+    let saved = tandos::tandos_save(
+        image,
+        10,
+        0,
+        &name,
+        0,
+        0x2000,
+        0x2000,
+        b"12 trousers",
+        &mut writes,
+    );
+    number(saved.number as u64);
     tandos::tandos_list(image, 10, 0, &mut records);
     text(b", free ");
     number(word(records[10], records[11]));
@@ -68,17 +94,25 @@ fn save_letters(image: &mut [u8]) {
 // "The 15th file needs no directory sector, the 16th one more; after one delete the next save needs none."
 fn directory_growth() {
     let mut image = [0u8; 3 * TRACK];
+    let mut writes = [0u8; WRITES];
     tandos::tandos_blank(&mut image, 10, 0, b"GROWTH");
     save_letters(&mut image);
     text(b"delete C: ");
-    number(tandos::tandos_delete(&mut image, 10, 0, b"C") as u64);
+    number(tandos::tandos_delete(&mut image, 10, 0, b"C", &mut writes).number as u64);
     text(b"\n");
     save_letter(&mut image, b'Q');
+}
+
+// Renames the file THU.PCS to its own name, and prints the number.
+fn rename_thursday(image: &mut [u8], writes: &mut [u8]) {
+    let renamed = tandos::tandos_rename(image, 10, 0, b"THU.PCS", b"THU.PCS", writes);
+    number(renamed.number as u64);
 }
 
 // "Rename of an unprotected file to its own name gives 5; of a protected one, 6."
 fn rename_to_itself() {
     let mut image = [0u8; TRACK];
+    let mut writes = [0u8; WRITES];
     tandos::tandos_blank(&mut image, 10, 0, b"NAMES");
     tandos::tandos_save(
         &mut image,
@@ -89,11 +123,12 @@ fn rename_to_itself() {
         0x2000,
         0x2000,
         b"7 jackets",
+        &mut writes,
     );
     text(b"rename to its own name: ");
-    number(tandos::tandos_rename(&mut image, 10, 0, b"THU.PCS", b"THU.PCS") as u64);
-    tandos::tandos_protect(&mut image, 10, 0, b"THU.PCS", 1);
+    rename_thursday(&mut image, &mut writes);
+    tandos::tandos_protect(&mut image, 10, 0, b"THU.PCS", 1, &mut writes);
     text(b"\nthe same, protected: ");
-    number(tandos::tandos_rename(&mut image, 10, 0, b"THU.PCS", b"THU.PCS") as u64);
+    rename_thursday(&mut image, &mut writes);
     text(b"\n");
 }

@@ -1,4 +1,5 @@
--- Document 01, 'Refusal numbers': each call's refusals in their order, and what it answers and leaves in all lent memory, for every input.
+-- Document 01, 'Refusal numbers': each call's refusals in their order, and what it answers and leaves in all lent memory, for every input;
+-- with the lists of writes and the replayer of document 02's request e.
 -- A public call's contract is an equation with one of the `after..` definitions, and so is each step of a run in demand 3.
 -- Assumes nothing.
 use Prim.Native.Nat.{ℕ}
@@ -7,13 +8,14 @@ use mathlib.Core.List.{List, [], _∷_}
 use lib.ListN.{length}
 use lib.Dec.{eqb, ltb}
 use Rattle.format.specs.Lists.{front}
-use Rattle.format.specs.Refusals.{Try, Refusal, NAME, UNSOUND, ABSENT, TAKEN, PROTECTED, MODULE, ROOM, NOT-PLAIN, SHORT, NO-SECTOR, numberOf, refused, ok, _>>=_, _>>_, refuse_if_, _orRefuse_, number, valueOr}
+use Rattle.format.specs.Refusals.{Try, Refusal, NAME, UNSOUND, ABSENT, TAKEN, PROTECTED, MODULE, ROOM, NOT-PLAIN, SHORT, NO-SECTOR, BAD-LIST, numberOf, refused, ok, _>>=_, _>>_, refuse_if_, _orRefuse_, number, valueOr}
 use Rattle.format.specs.Geometry.{Format, Geometry, geometry, sectorNumber, onDisc, Disc, cut, flat, Part, bodyPart, Write, written}
 use Rattle.format.specs.Names.{stored, discName}
 use Rattle.format.specs.Layout.{namePlace, attributePlace, attributeOf, isProtected, protectedAs, free, find}
 use Rattle.format.specs.Check.{broken, sound}
 use Rattle.format.specs.Modules.{Module, endOf, allowed}
 use Rattle.format.specs.Effects.{isSome, slotWrite, needed, saveWrites, deleteWrites, reading, listing, blankDisc}
+use Rattle.format.specs.Writes.{writeList, held}
 
 -- ---- the refusals in their order, after 1, on a disc
 
@@ -71,7 +73,8 @@ module _ (G : Geometry) (d : Disc) where
     refuse TAKEN if isSome (find G d nine′)
     ok (slotWrite d s namePlace nine′ ∷ [])
 
-  -- "protect 1, 2, 3, 4"; "on or off (by number, 0 is off and any other on)"; "asking for what already stands is done, with nothing changed"
+  -- "protect 1, 2, 3, 4"; "on or off (by number, 0 is off and any other on)"; "asking for what already stands is done, with nothing changed": the
+  -- write is made all the same
   unfoldable pub protectOn : (name : List ℕ) (on : ℕ) → Try Refusal (List Write)
   protectOn name on = do
     nine ← stored name orRefuse NAME
@@ -79,7 +82,16 @@ module _ (G : Geometry) (d : Disc) where
     s ← find G d nine orRefuse ABSENT
     ok (slotWrite d s attributePlace (protectedAs (not (eqb on 0)) (attributeOf s) ∷ []) ∷ [])
 
--- ---- the calls on an image: refusal 1, then the refusals on its sectors. F is what the caller states.
+  -- "The replayer is a call of its own: a list with another kind, a cut record, .. gives 14, BAD LIST, after 1", whatever stands on the disc
+  unfoldable pub replayOn : (writes : List ℕ) → Try Refusal (List Write)
+  replayOn writes = held G writes orRefuse BAD-LIST
+
+-- what a command that is done leaves: the new image, and the list of what it wrote
+pub record Change : Type 0 where
+  pub image : List ℕ
+  pub list : List ℕ
+
+-- ---- the calls on an image: refusal 1, then the refusals on its sectors, and at last 10 where a list of writes is given. F is what the caller states.
 
 module _ (F : Format) (image : List ℕ) where
   -- a call that writes nothing into the image
@@ -88,12 +100,24 @@ module _ (F : Format) (image : List ℕ) where
     G ← geometry F (length image)
     f G (cut F G image)
 
+  -- the image with these sectors written
+  abbrev pub rewritten : Geometry → List Write → List ℕ
+  rewritten G ws = flat F G (written ws (cut F G image))
+
   -- a call that writes sectors: the new image
   unfoldable pub changed : (Geometry → Disc → Try Refusal (List Write)) → Try Refusal (List ℕ)
   changed f = do
     G ← geometry F (length image)
     ws ← f G (cut F G image)
-    ok (flat F G (written ws (cut F G image)))
+    ok (rewritten G ws)
+
+  -- a command that "also give[s] the writes in order", lent so much room: "A buffer that can't hold the list gives 10, after all other refusals."
+  unfoldable pub listed : (room : ℕ) → (Geometry → Disc → Try Refusal (List Write)) → Try Refusal Change
+  listed room f = do
+    G ← geometry F (length image)
+    ws ← f G (cut F G image)
+    refuse SHORT if ltb room (length (writeList G ws))
+    ok (record { image = rewritten G ws; list = writeList G ws })
 
   -- "check 1": "The check never gives 3: on an image of a right size it answers 0 (done), and beside it the number of the broken rule, or 0"
   abbrev pub check : Try Refusal ℕ
@@ -107,18 +131,22 @@ module _ (F : Format) (image : List ℕ) where
   abbrev pub read : (name : List ℕ) (room : ℕ) → Try Refusal Module
   read name room = asked (λ G d. readOn G d name room)
 
-  -- the image after each of the commands that write sectors
-  abbrev pub save : (name : List ℕ) (m : Module) → Try Refusal (List ℕ)
-  save name m = changed (λ G d. saveOn G d name m)
+  -- "save, delete, rename and protect should also give the writes"
+  abbrev pub save : (name : List ℕ) (m : Module) (room : ℕ) → Try Refusal Change
+  save name m room = listed room (λ G d. saveOn G d name m)
 
-  abbrev pub delete : (name : List ℕ) → Try Refusal (List ℕ)
-  delete name = changed (λ G d. deleteOn G d name)
+  abbrev pub delete : (name : List ℕ) (room : ℕ) → Try Refusal Change
+  delete name room = listed room (λ G d. deleteOn G d name)
 
-  abbrev pub rename : (old new : List ℕ) → Try Refusal (List ℕ)
-  rename old new = changed (λ G d. renameOn G d old new)
+  abbrev pub rename : (old new : List ℕ) (room : ℕ) → Try Refusal Change
+  rename old new room = listed room (λ G d. renameOn G d old new)
 
-  abbrev pub protect : (name : List ℕ) (on : ℕ) → Try Refusal (List ℕ)
-  protect name on = changed (λ G d. protectOn G d name on)
+  abbrev pub protect : (name : List ℕ) (on room : ℕ) → Try Refusal Change
+  protect name on room = listed room (λ G d. protectOn G d name on)
+
+  -- the image after a replay
+  abbrev pub replay : (writes : List ℕ) → Try Refusal (List ℕ)
+  replay writes = changed (λ G d. replayOn G d writes)
 
   -- "blank 1, 2"
   unfoldable pub blank : (name : List ℕ) → Try Refusal (List ℕ)
@@ -136,7 +164,7 @@ module _ (F : Format) (image : List ℕ) where
 
 -- ---- what each call answers and leaves: "With a refusal every other number in the answer is 0, a view is empty, and all lent memory stays."
 
--- save, delete, rename, protect and blank: the number, and the image afterwards
+-- blank and replay, and each step of a run: the number, and the image afterwards
 pub record Answer : Type 0 where
   pub number : ℕ
   pub image : List ℕ
@@ -148,6 +176,18 @@ answered n image = record { number = n; image = image }
 -- "all lent memory stays": the old image with a refusal
 unfoldable pub answerBy : List ℕ → Try Refusal (List ℕ) → Answer
 answerBy image t = answered (number t) (valueOr image t)
+
+-- save, delete, rename and protect: the number, the length of the list of writes, and image and lent buffer afterwards
+pub record ChangeAnswer : Type 0 where
+  pub number : ℕ
+  pub size : ℕ
+  pub image : List ℕ
+  pub buffer : List ℕ
+
+-- "at the front of a lent buffer, its rest unchanged and their length given"
+unfoldable pub changeAnswerBy : (image buffer : List ℕ) → Try Refusal Change → ChangeAnswer
+changeAnswerBy image buffer (refused e) = record { number = numberOf e; size = 0; image = image; buffer = buffer }
+changeAnswerBy image buffer (ok c) = record { number = 0; size = length (c .list); image = c .image; buffer = front (c .list) buffer }
 
 -- check: the number, and the broken rule
 pub record CheckAnswer : Type 0 where
@@ -208,17 +248,21 @@ module _ (F : Format) (image : List ℕ) where
   unfoldable pub afterRead : (name buffer : List ℕ) → ReadAnswer
   afterRead name buffer = readAnswerBy buffer (read F image name (length buffer))
 
-  unfoldable pub afterSave : (name : List ℕ) (m : Module) → Answer
-  afterSave name m = answerBy image (save F image name m)
+  unfoldable pub afterSave : (name : List ℕ) (m : Module) (buffer : List ℕ) → ChangeAnswer
+  afterSave name m buffer = changeAnswerBy image buffer (save F image name m (length buffer))
 
-  unfoldable pub afterDelete : (name : List ℕ) → Answer
-  afterDelete name = answerBy image (delete F image name)
+  unfoldable pub afterDelete : (name buffer : List ℕ) → ChangeAnswer
+  afterDelete name buffer = changeAnswerBy image buffer (delete F image name (length buffer))
 
-  unfoldable pub afterRename : (old new : List ℕ) → Answer
-  afterRename old new = answerBy image (rename F image old new)
+  unfoldable pub afterRename : (old new buffer : List ℕ) → ChangeAnswer
+  afterRename old new buffer = changeAnswerBy image buffer (rename F image old new (length buffer))
 
-  unfoldable pub afterProtect : (name : List ℕ) (on : ℕ) → Answer
-  afterProtect name on = answerBy image (protect F image name on)
+  unfoldable pub afterProtect : (name : List ℕ) (on : ℕ) (buffer : List ℕ) → ChangeAnswer
+  afterProtect name on buffer = changeAnswerBy image buffer (protect F image name on (length buffer))
+
+  -- ".. and writes nothing"
+  unfoldable pub afterReplay : (writes : List ℕ) → Answer
+  afterReplay writes = answerBy image (replay F image writes)
 
   unfoldable pub afterBlank : (name : List ℕ) → Answer
   afterBlank name = answerBy image (blank F image name)

@@ -1,5 +1,5 @@
 -- Document 01, 'What the commands do': what each command gives and writes on a disc where no refusal applies.
--- What a command writes is a list of whole sectors, each as it stands afterwards. Document 01 leaves their order open: it is request e's of document 02.
+-- What a command writes is a list of whole sectors, each as it stands afterwards. Their order is request e's of document 02.
 -- Assumes nothing.
 use Prim.Native.Nat.{ℕ, _+_, _-_}
 use mathlib.Core.Bool.{Bool, true, false, not, cond}
@@ -23,7 +23,7 @@ isSome (some a) = true
 abbrev pub body : List ℕ → List ℕ
 body s = drop 2 s
 
--- the directory sector of a slot with bytes stored from place k of the slot on
+-- the directory sector of a slot with bytes stored from place k of the slot on: "Rename and protect write the entry's directory sector, changed or not."
 abbrev pub slotWrite : Disc → Slot → ℕ → List ℕ → Write
 slotWrite d s k xs = record { at = s .home; bytes = sets (sector d (s .home)) (slotStart (s .index) + k) xs }
 
@@ -74,7 +74,8 @@ module _ (G : Geometry) where
   needed d L = sectorsFor L + growth d
 
   -- "The slot is the first free one in directory order, and its sector's byte 2 goes up by one." Where none is free: "A new directory
-  -- sector is all zeros but for its count and its first entry, and is linked from the last one."
+  -- sector is all zeros but for its count and its first entry, and is linked from the last one." In this order: "last the directory sector with the
+  -- new entry, or, where the directory grows, the new directory sector and then the one that links to it".
   unfoldable pub entryWrites : Disc → (entry : List ℕ) → (new : ℕ) → Option Slot → List Write
   entryWrites d e new (some s) = entryWrite d s (byte (sector d (s .home)) inUsePlace + 1) e ∷ []
   entryWrites d e new none =
@@ -83,6 +84,7 @@ module _ (G : Geometry) where
 
   -- "Save takes sectors from the head of the free chain, in order, as many as the module takes; one more after those if no slot is
   -- free." "The free pointer becomes the link found in the last sector taken (zeros if that ended the chain). Both counts follow."
+  -- In this order: "Save writes the system sector first, then the file's sectors in chain order; last the directory sector ..".
   unfoldable pub saveWrites : Disc → (nine : List ℕ) → Module → List Write
   saveWrites d nine m =
       let k = sectorsFor (length (m .bytes)) in
@@ -96,6 +98,7 @@ module _ (G : Geometry) where
 
   -- "Delete clears the slot to zeros, lowers byte 2, links the file's last sector to the old free pointer (zeros if none), and points the
   -- free pointer at the file's first sector. Both counts follow. Other bytes of those sectors stay. An emptied directory sector stays."
+  -- In this order: "Delete writes the directory sector, the file's last sector, the system sector."
   unfoldable pub deleteWrites : Disc → Slot → List Write
   deleteWrites d s =
       let last = lastOr 0 (fileChain G d s) in

@@ -161,7 +161,7 @@ bytesOf p image = take (p .size) (drop (p .at) image)
 
 -- ---- writes
 
--- one sector with all its bytes as they stand afterwards
+-- one sector with all its bytes
 pub record Write : Type 0 where
   pub at : ℕ
   pub bytes : List ℕ

@@ -16,8 +16,11 @@ pub mod CheckLaws
 pub mod Modules
 pub mod ModuleLaws
 pub mod Effects
+pub mod Writes
 pub mod Calls
 pub mod CallLaws
 pub mod WholeWrites
+pub mod WriteLaws
+pub mod ListedLaws
 pub mod Moving
 pub mod MovingLaws

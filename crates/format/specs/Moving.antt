@@ -11,7 +11,7 @@ use Rattle.format.specs.Refusals.{Try, Refusal, SIZE, refused, ok, _>>=_
 use Rattle.format.specs.Geometry.{Format, stated, arranged, geometry, cut, flat, Part, movedPart, bytesOf}
 use Rattle.format.specs.Modules.{Module}
 use Rattle.format.specs.Calls as calls
-use Rattle.format.specs.Calls.{Answer, answered, listAnswerBy, readAnswerBy, afterCheck, afterList, afterRead, afterSave, afterDelete, afterRename, afterProtect, afterBlank, viewNumber, viewPart}
+use Rattle.format.specs.Calls.{Answer, answered, ChangeAnswer, changeAnswerBy, listAnswerBy, readAnswerBy, afterCheck, afterList, afterRead, afterSave, afterDelete, afterRename, afterProtect, afterReplay, afterBlank, viewNumber, viewPart}
 
 -- an arrangement of a track's places: each sector of the track once
 abbrev pub Arrangement : Format → List ℕ → Type 0
@@ -35,15 +35,23 @@ module _ (F : Format) (A : List ℕ) where
   abbrev pub movedAnswer : Answer → Answer
   movedAnswer a = answered (a .number) (movedForm (a .image))
 
+  -- the same with a list of writes, which names sectors by track and sector and so does not move
+  abbrev pub movedChange : ChangeAnswer → ChangeAnswer
+  movedChange a = record { number = a .number; size = a .size; image = movedForm (a .image); buffer = a .buffer }
+
   -- every call, for all its arguments: on the moved form of an image, in the arrangement A, and on the image itself
   pub record Moves : Type 0 where
     pub check : (image : List ℕ) → afterCheck (arranged A F) (movedForm image) ≡ afterCheck F image
     pub list : (image buffer : List ℕ) → afterList (arranged A F) (movedForm image) buffer ≡ afterList F image buffer
     pub read : (image name buffer : List ℕ) → afterRead (arranged A F) (movedForm image) name buffer ≡ afterRead F image name buffer
-    pub save : (image name : List ℕ) (m : Module) → afterSave (arranged A F) (movedForm image) name m ≡ movedAnswer (afterSave F image name m)
-    pub delete : (image name : List ℕ) → afterDelete (arranged A F) (movedForm image) name ≡ movedAnswer (afterDelete F image name)
-    pub rename : (image old new : List ℕ) → afterRename (arranged A F) (movedForm image) old new ≡ movedAnswer (afterRename F image old new)
-    pub protect : (image name : List ℕ) (on : ℕ) → afterProtect (arranged A F) (movedForm image) name on ≡ movedAnswer (afterProtect F image name on)
+    pub save : (image name : List ℕ) (m : Module) (buffer : List ℕ)
+        → afterSave (arranged A F) (movedForm image) name m buffer ≡ movedChange (afterSave F image name m buffer)
+    pub delete : (image name buffer : List ℕ) → afterDelete (arranged A F) (movedForm image) name buffer ≡ movedChange (afterDelete F image name buffer)
+    pub rename : (image old new buffer : List ℕ)
+        → afterRename (arranged A F) (movedForm image) old new buffer ≡ movedChange (afterRename F image old new buffer)
+    pub protect : (image name : List ℕ) (on : ℕ) (buffer : List ℕ)
+        → afterProtect (arranged A F) (movedForm image) name on buffer ≡ movedChange (afterProtect F image name on buffer)
+    pub replay : (image writes : List ℕ) → afterReplay (arranged A F) (movedForm image) writes ≡ movedAnswer (afterReplay F image writes)
     pub blank : (image name : List ℕ) → afterBlank (arranged A F) (movedForm image) name ≡ movedAnswer (afterBlank F image name)
     -- the part at the moved place, with the same bytes; the number of a view is a call of its own
     pub view : (image : List ℕ) (track sector : ℕ)
@@ -67,10 +75,11 @@ pub record GivesOne (F : Format) : Type 0 where
   pub check : (image : List ℕ) → afterCheck F image ≡ record { number = 1; rule = 0 }
   pub list : (image buffer : List ℕ) → afterList F image buffer ≡ listAnswerBy buffer (refused SIZE)
   pub read : (image name buffer : List ℕ) → afterRead F image name buffer ≡ readAnswerBy buffer (refused SIZE)
-  pub save : (image name : List ℕ) (m : Module) → afterSave F image name m ≡ answered 1 image
-  pub delete : (image name : List ℕ) → afterDelete F image name ≡ answered 1 image
-  pub rename : (image old new : List ℕ) → afterRename F image old new ≡ answered 1 image
-  pub protect : (image name : List ℕ) (on : ℕ) → afterProtect F image name on ≡ answered 1 image
+  pub save : (image name : List ℕ) (m : Module) (buffer : List ℕ) → afterSave F image name m buffer ≡ changeAnswerBy image buffer (refused SIZE)
+  pub delete : (image name buffer : List ℕ) → afterDelete F image name buffer ≡ changeAnswerBy image buffer (refused SIZE)
+  pub rename : (image old new buffer : List ℕ) → afterRename F image old new buffer ≡ changeAnswerBy image buffer (refused SIZE)
+  pub protect : (image name : List ℕ) (on : ℕ) (buffer : List ℕ) → afterProtect F image name on buffer ≡ changeAnswerBy image buffer (refused SIZE)
+  pub replay : (image writes : List ℕ) → afterReplay F image writes ≡ answered 1 image
   pub blank : (image name : List ℕ) → afterBlank F image name ≡ answered 1 image
   pub view : (image : List ℕ) (track sector : ℕ) → calls.view F image track sector ≡ refused SIZE
 

@@ -7,20 +7,23 @@ use mathlib.Core.Bool.{Bool, true, false, not}
 use mathlib.Core.Option.{Option, none, some}
 use mathlib.Core.List.{List, [], _∷_, map}
 use lib.ListN.{length}
-use Rattle.format.specs.Refusals.{Try, Refusal, NAME, NO-SECTOR, refused, ok, _>>=_, _>>_, refuse_if_, _orRefuse_, number, valueOr}
-use Rattle.format.specs.Lists.{range, Once}
+use lib.Dec.{ltb}
+use Rattle.format.specs.Refusals.{Try, Refusal, NAME, SHORT, NO-SECTOR, refused, ok, _>>=_, _>>_, refuse_if_, _orRefuse_, number, valueOr}
+use Rattle.format.specs.Lists.{range, Once, front}
 use Rattle.format.specs.ListLaws.{All}
 use Rattle.format.specs.Geometry.{Format, ten, tenMoved, unknown, stated, arranged, Geometry, tracked, geometry, sectors, sectorNumber, startOf, placeOf, sectorAt, onDisc, Disc, cut, flat, sector, bodyPart, movedPart, bytesOf, Write, written}
 use Rattle.format.specs.Arrangements.{in-order-once, Arranged}
 use Rattle.format.specs.GeometryLaws.{same-length, no-disc, place-back, number-below, on-disc-is, ImageOf, geometry-ok, Full, cut-full, cut-flat, flat-cut, flat-long}
 use Rattle.format.specs.Formats.{stated-cases, other-arrangement, other-sectors, nine-moved}
-use Rattle.format.specs.Calls.{listOn, readOn, saveOn, deleteOn, renameOn, protectOn, partBy, listAnswerBy, readAnswerBy, answered, answerBy, asked, changed, blank, view, checkAnswerBy, afterCheck, afterList, afterRead, afterSave, afterDelete, afterRename, afterProtect, afterBlank, viewNumber, viewPart}
+use Rattle.format.specs.Calls.{listOn, readOn, saveOn, deleteOn, renameOn, protectOn, replayOn, partBy, listAnswerBy, readAnswerBy, answered, answerBy, asked, changed, listed, changeAnswerBy, blank, view, checkAnswerBy, afterCheck, afterList, afterRead, afterSave, afterDelete, afterRename, afterProtect, afterReplay, afterBlank, viewNumber, viewPart}
 use Rattle.format.specs.Names.{discName}
 use Rattle.format.specs.Check.{broken}
 use Rattle.format.specs.Effects.{body, blankDisc}
 use Rattle.format.specs.CallLaws.{view-body}
 use Rattle.format.specs.WholeWrites.{Whole, written-full, save-whole, delete-whole, rename-whole, protect-whole, blank-whole}
-use Rattle.format.specs.Moving.{Arrangement, movedForm, movedView, movedAnswer, Moves, MovesAlike, MovesBack, GivesOne, OtherNumbers}
+use Rattle.format.specs.Writes.{writeList}
+use Rattle.format.specs.WriteLaws.{replay-whole}
+use Rattle.format.specs.Moving.{Arrangement, movedForm, movedView, movedAnswer, movedChange, Moves, MovesAlike, MovesBack, GivesOne, OtherNumbers}
 
 module _ (F : Format) (own : Arrangement F (F .arrangement)) (A : List ℕ) (other : Arrangement F A) where
   module _ (image : List ℕ) (G : Geometry) (g : geometry F (length image) ≡ ok G) where
@@ -93,6 +96,41 @@ module _ (F : Format) (own : Arrangement F (F .arrangement)) (A : List ℕ) (oth
           on (refused e) q = refl
           on (ok ws) q =
               ap (answered 0) (sym (moved-flat image G p (written ws (cut F G image)) (written-full ws (whole G (cut F G image) (full image G p) ws q) (full image G p))))
+
+  -- the same, with the list of what was written
+  pub listed-moved : (h : Geometry → Disc → Try Refusal (List Write))
+      → ((G : Geometry) (d : Disc) → Full G d → (ws : List Write) → h G d ≡ ok ws → All (Whole G) ws) → (image buffer : List ℕ)
+      → changeAnswerBy (movedForm F A image) buffer (listed (arranged A F) (movedForm F A image) (length buffer) h)
+      ≡ movedChange F A (changeAnswerBy image buffer (listed F image (length buffer) h))
+  unfolding listed changeAnswerBy _>>=_ _>>_ refuse_if_
+  listed-moved h whole image buffer = by (geometry F (length image)) refl
+    where
+      by : (t : Try Refusal Geometry) → geometry F (length image) ≡ t
+          → changeAnswerBy (movedForm F A image) buffer (listed (arranged A F) (movedForm F A image) (length buffer) h)
+          ≡ movedChange F A (changeAnswerBy image buffer (listed F image (length buffer) h))
+      by (refused e) p = rw (same-length F A (length (movedForm F A image)), ap (λ (x : List ℕ). geometry F (length x)) (moved-wrong image e p) ∙ p, p) refl
+      by (ok G) p = rw (moved-geometry image G p, p, moved-sectors image G p) (on (h G (cut F G image)) refl)
+        where
+          d : Disc
+          d = cut F G image
+
+          -- what is answered where there is room, and where there is none
+          fits : (ws : List Write) → h G d ≡ ok ws → (b : Bool)
+              → changeAnswerBy (movedForm F A image) buffer
+              (refuse SHORT if b >> ok (record { image = flat (arranged A F) G (written ws d); list = writeList G ws }))
+              ≡ movedChange F A (changeAnswerBy image buffer (refuse SHORT if b >> ok (record { image = flat F G (written ws d); list = writeList G ws })))
+          fits ws q true = refl
+          fits ws q false =
+              let there = moved-flat image G p (written ws d) (written-full ws (whole G d (full image G p) ws q) (full image G p)) in
+              λ i. record { number = 0; size = length (writeList G ws); image = sym there i; buffer = front (writeList G ws) buffer }
+
+          on : (t : Try Refusal (List Write)) → h G d ≡ t
+              → changeAnswerBy (movedForm F A image) buffer
+              (t >>= λ ws. (refuse SHORT if ltb (length buffer) (length (writeList G ws)) >> ok (record { image = flat (arranged A F) G (written ws d); list = writeList G ws })))
+              ≡ movedChange F A (changeAnswerBy image buffer
+              (t >>= λ ws. (refuse SHORT if ltb (length buffer) (length (writeList G ws)) >> ok (record { image = flat F G (written ws d); list = writeList G ws }))))
+          on (refused e) q = refl
+          on (ok ws) q = fits ws q (ltb (length buffer) (length (writeList G ws)))
 
   -- ---- blank disc and view
 
@@ -175,16 +213,17 @@ module _ (F : Format) (own : Arrangement F (F .arrangement)) (A : List ℕ) (oth
 
   -- "Show this once for any arrangement of the ten places"
   pub moves : Moves F A
-  unfolding afterCheck afterList afterRead afterSave afterDelete afterRename afterProtect afterBlank
+  unfolding afterCheck afterList afterRead afterSave afterDelete afterRename afterProtect afterReplay afterBlank
   moves =
       record {
         check = λ image. ap checkAnswerBy (asked-moved (λ G d. ok (broken G d)) image);
         list = λ image buffer. ap (listAnswerBy buffer) (asked-moved (λ G d. listOn G d (length buffer)) image);
         read = λ image name buffer. ap (readAnswerBy buffer) (asked-moved (λ G d. readOn G d name (length buffer)) image);
-        save = λ image name m. changed-moved (λ G d. saveOn G d name m) (λ G d f ws p. save-whole G d f name m ws p) image;
-        delete = λ image name. changed-moved (λ G d. deleteOn G d name) (λ G d f ws p. delete-whole G d f name ws p) image;
-        rename = λ image old new. changed-moved (λ G d. renameOn G d old new) (λ G d f ws p. rename-whole G d f old new ws p) image;
-        protect = λ image name on. changed-moved (λ G d. protectOn G d name on) (λ G d f ws p. protect-whole G d f name on ws p) image;
+        save = λ image name m buffer. listed-moved (λ G d. saveOn G d name m) (λ G d f ws p. save-whole G d f name m ws p) image buffer;
+        delete = λ image name buffer. listed-moved (λ G d. deleteOn G d name) (λ G d f ws p. delete-whole G d f name ws p) image buffer;
+        rename = λ image old new buffer. listed-moved (λ G d. renameOn G d old new) (λ G d f ws p. rename-whole G d f old new ws p) image buffer;
+        protect = λ image name on buffer. listed-moved (λ G d. protectOn G d name on) (λ G d f ws p. protect-whole G d f name on ws p) image buffer;
+        replay = λ image writes. changed-moved (λ G d. replayOn G d writes) (λ G d f ws p. replay-whole G d writes ws p) image;
         blank = λ image name. blank-moved name image;
         view = λ image t s. part-moved t s image;
         view-number = λ image t s. view-moved t s image;
@@ -255,16 +294,17 @@ card-places = record { of-track = refl; starts-0-4 = refl; starts-39-10 = refl }
 -- ---- what gives 1
 
 none-gives-one : GivesOne unknown
-unfolding view asked changed blank answerBy afterCheck checkAnswerBy afterList listAnswerBy afterRead afterSave afterDelete afterRename afterProtect afterBlank _>>=_ number valueOr
+unfolding view asked changed listed changeAnswerBy blank answerBy afterCheck checkAnswerBy afterList listAnswerBy afterRead afterSave afterDelete afterRename afterProtect afterReplay afterBlank _>>=_ number valueOr
 none-gives-one =
     record {
       check = λ image. rw (no-disc (length image));
       list = λ image buffer. rw (no-disc (length image));
       read = λ image name buffer. rw (no-disc (length image));
-      save = λ image name m. rw (no-disc (length image));
-      delete = λ image name. rw (no-disc (length image));
-      rename = λ image old new. rw (no-disc (length image));
-      protect = λ image name on. rw (no-disc (length image));
+      save = λ image name m buffer. rw (no-disc (length image));
+      delete = λ image name buffer. rw (no-disc (length image));
+      rename = λ image old new buffer. rw (no-disc (length image));
+      protect = λ image name on buffer. rw (no-disc (length image));
+      replay = λ image writes. rw (no-disc (length image));
       blank = λ image name. rw (no-disc (length image));
       view = λ image t s. rw (no-disc (length image));
     }

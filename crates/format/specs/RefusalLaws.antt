@@ -6,7 +6,7 @@ use Prim.Native.Nat.{ℕ}
 use native.Mathlib.Omega.{arith}
 use mathlib.Core.Bool.{Bool, true, false}
 use mathlib.Core.Option.{Option, none, some}
-use Rattle.format.specs.Refusals.{Try, Refusal, SIZE, NAME, UNSOUND, ABSENT, TAKEN, PROTECTED, MODULE, ROOM, NOT-PLAIN, SHORT, NO-SECTOR, BAD-SHEET, TOTAL, numberOf, refused, ok, _>>=_, _>>_, refuse_if_, _orRefuse_, number}
+use Rattle.format.specs.Refusals.{Try, Refusal, SIZE, NAME, UNSOUND, ABSENT, TAKEN, PROTECTED, MODULE, ROOM, NOT-PLAIN, SHORT, NO-SECTOR, BAD-SHEET, TOTAL, BAD-LIST, numberOf, refused, ok, _>>=_, _>>_, refuse_if_, _orRefuse_, number}
 
 -- ---- accepted
 
@@ -60,3 +60,4 @@ refusal-number SHORT h = omega arith
 refusal-number NO-SECTOR h = omega arith
 refusal-number BAD-SHEET h = omega arith
 refusal-number TOTAL h = omega arith
+refusal-number BAD-LIST h = omega arith

@@ -6,7 +6,7 @@ use mathlib.Core.Option.{Option, none, some}
 
 -- The table's names, and those that "join document 01's table" (document 02). There are no other refusals.
 pub data Refusal : Type 0 where
-  SIZE NAME UNSOUND ABSENT TAKEN PROTECTED MODULE ROOM NOT-PLAIN SHORT NO-SECTOR BAD-SHEET TOTAL : Refusal
+  SIZE NAME UNSOUND ABSENT TAKEN PROTECTED MODULE ROOM NOT-PLAIN SHORT NO-SECTOR BAD-SHEET TOTAL BAD-LIST : Refusal
 
 -- The table's numbers.
 abbrev pub numberOf : Refusal → ℕ
@@ -23,6 +23,7 @@ numberOf SHORT = 10
 numberOf NO-SECTOR = 11
 numberOf BAD-SHEET = 12
 numberOf TOTAL = 13
+numberOf BAD-LIST = 14
 
 -- "Order, first that applies": a refusal for the reason e, or a value. A command's order is a do-block, read from the top.
 pub data Try (E A : Type 0) : Type 0 where

@@ -51,7 +51,7 @@ module _ (G : Geometry) where
   chained-whole (n ∷ ns) (_also_ {x = b} h hs) = linked-whole n (headOf ns) b h also chained-whole ns hs
 
   module _ (d : Disc) (f : Full G d) where
-    slot-whole : (s : Slot) (k : ℕ) (xs : List ℕ) → Whole G (slotWrite d s k xs)
+    pub slot-whole : (s : Slot) (k : ℕ) (xs : List ℕ) → Whole G (slotWrite d s k xs)
     slot-whole s k xs l = length-sets (sector d (s .home)) (slotStart (s .index) + k) xs ∙ sector-full f (s .home) l
 
     withSlot-long : (r : List ℕ) (i n : ℕ) (xs : List ℕ) → length (withSlot r i n xs) ≡ length r
@@ -77,18 +77,21 @@ module _ (G : Geometry) where
     entries-whole e new none =
         new-whole new e also link-whole (lastOr 0 (directory G d)) (linkBytes G (go new)) also done
 
-    pub save-whole : (name : List ℕ) (m : Module) (ws : List Write) → saveOn G d name m ≡ ok ws → All (Whole G) ws
+    pub saved-whole : (nine : List ℕ) (m : Module) → All (Whole G) (saveWrites G d nine m)
     unfolding saveWrites
-    save-whole name m ws p =
-        let s = save-ok G d name m ws p in
-        subst (All (Whole G)) (s .writes) (system-whole _ _ _ also all-join (chained-whole _ (bodies-254 m)) (entries-whole _ _ (openSlot G d)))
+    saved-whole nine m = system-whole _ _ _ also all-join (chained-whole _ (bodies-254 m)) (entries-whole _ _ (openSlot G d))
+
+    pub deleted-whole : (s : Slot) → All (Whole G) (deleteWrites G d s)
+    unfolding deleteWrites
+    deleted-whole s =
+        entry-whole s _ emptySlot also link-whole (lastOr 0 (fileChain G d s)) (linkBytes G (freePointer G d)) also system-whole _ _ _ also done
+
+    -- the accepted commands
+    pub save-whole : (name : List ℕ) (m : Module) (ws : List Write) → saveOn G d name m ≡ ok ws → All (Whole G) ws
+    save-whole name m ws p = let s = save-ok G d name m ws p in subst (All (Whole G)) (s .writes) (saved-whole (s .nine) m)
 
     pub delete-whole : (name : List ℕ) (ws : List Write) → deleteOn G d name ≡ ok ws → All (Whole G) ws
-    unfolding deleteWrites
-    delete-whole name ws p =
-        let s = delete-ok G d name ws p in
-        subst (All (Whole G)) (s .writes)
-        (entry-whole (s .s) _ emptySlot also link-whole (lastOr 0 (fileChain G d (s .s))) (linkBytes G (freePointer G d)) also system-whole _ _ _ also done)
+    delete-whole name ws p = let s = delete-ok G d name ws p in subst (All (Whole G)) (s .writes) (deleted-whole (s .s))
 
     pub rename-whole : (old new : List ℕ) (ws : List Write) → renameOn G d old new ≡ ok ws → All (Whole G) ws
     rename-whole old new ws p = let s = rename-ok G d old new ws p in subst (All (Whole G)) (s .writes) (slot-whole (s .s) namePlace (s .nine′) also done)

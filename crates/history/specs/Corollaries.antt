@@ -9,7 +9,7 @@ use lib.ListN.{length, getElem?}
 use borrow.Author.Tests.{le-ltb}
 use Rattle.format.specs.ListLaws.{All, done, _also_, all-mapped}
 use Rattle.format.specs.Refusals.{NOT-PLAIN, ok, _>>_, refuse_if_, _orRefuse_}
-use Rattle.format.specs.RefusalLaws.{then-ok}
+use Rattle.format.specs.RefusalLaws.{refusal-number}
 use Rattle.format.specs.Geometry.{Format, Geometry, geometry, Disc, cut}
 use Rattle.format.specs.Formats.{GoodFormat}
 use Rattle.format.specs.Names.{stored}
@@ -17,12 +17,12 @@ use Rattle.format.specs.Layout.{Slot, entries}
 use Rattle.format.specs.Modules.{Module}
 use Rattle.format.specs.ModuleLaws.{allowed-true, plain-only}
 use Rattle.format.specs.Effects.{reading}
-use Rattle.format.specs.Calls.{saveOn, changed, answerBy, readAnswerBy, afterCheck, afterRead, afterSave}
+use Rattle.format.specs.Calls.{saveOn, ChangeAnswer, changeAnswerBy, readAnswerBy, afterCheck, afterRead, afterSave}
 use Rattle.format.specs.CallLaws.{save-ok}
+use Rattle.format.specs.ListedLaws.{Outcome, stays, writes, outcome}
 use Rattle.history.specs.History.{Command, save, step, run, File, Book, nineOf, accepted, entered, openingBook, bookAfter, says}
 use Rattle.history.specs.Demand3.{isSound, Handed, Moment}
 use Rattle.history.specs.OnlyOne.{all-got}
-use Rattle.history.specs.Answers.{zero-ok}
 use Rattle.history.specs.State.{nine-of}
 use Rattle.history.specs.Demand.{run-moment, checked-sound}
 
@@ -42,13 +42,14 @@ says-whole none room h = refl
 says-whole (some m) room h = rw (le-ltb room (length (m .bytes)) (h m refl))
 
 -- an accepted save's name can be stored
-saved-typed : (F : Format) (s name : List ℕ) (m : Module) → afterSave F s name m .number ≡ 0 → stored name ≡ some (nineOf name)
-unfolding afterSave answerBy changed
-saved-typed F s name m e =
-    let a = then-ok (geometry F (length s)) _ (zero-ok s (changed F s (λ G d. saveOn G d name m)) e) in
-    let b = then-ok (saveOn (a .0) (cut F (a .0) s) name m) _ (a .2) in
-    let q = save-ok (a .0) (cut F (a .0) s) name m (b .0) (b .1) in
-    q .typed ∙ ap some (sym (nine-of name (q .typed)))
+saved-typed : (F : Format) (s name : List ℕ) (m : Module) (buffer : List ℕ) (G : Geometry) → geometry F (length s) ≡ ok G
+    → afterSave F s name m buffer .number ≡ 0 → stored name ≡ some (nineOf name)
+unfolding afterSave changeAnswerBy
+saved-typed F s name m buffer G g = case (outcome F s buffer (λ G d. saveOn G d name m) G g)
+  where
+    case : {r : ChangeAnswer} → Outcome F G s buffer (λ G d. saveOn G d name m) r → r .number ≡ 0 → stored name ≡ some (nineOf name)
+    case (stays e) z = absurd (refusal-number e z)
+    case (writes ws p fits) z = let q = save-ok G (cut F G s) name m ws p in q .typed ∙ ap some (sym (nine-of name (q .typed)))
 
 module _ (F : Format) (f : GoodFormat F) (s : List ℕ) (G : Geometry) (g : geometry F (length s) ≡ ok G) (checked : afterCheck F s ≡ isSound) where
   -- "At the start these are the entries', each reading as read with a buffer of 65,536 bytes gives it."
@@ -62,12 +63,13 @@ module _ (F : Format) (f : GoodFormat F) (s : List ℕ) (G : Geometry) (g : geom
       m .reads i file e typed buffer t ∙ ap (readAnswerBy buffer) (says-whole (file .reading) (length buffer) (λ m q. omega (arith, small m q)))
 
   -- an accepted save's module is read back under its name
-  pub saved-reads : (name : List ℕ) (m : Module) → Handed (save name m) → afterSave F s name m .number ≡ 0
-      → (buffer : List ℕ) → afterRead F (afterSave F s name m .image) name buffer ≡ readAnswerBy buffer (says (some m) (length buffer))
+  pub saved-reads : (name : List ℕ) (m : Module) (lent : List ℕ) → Handed (save name m lent) → afterSave F s name m lent .number ≡ 0
+      → (buffer : List ℕ) → afterRead F (afterSave F s name m lent .image) name buffer ≡ readAnswerBy buffer (says (some m) (length buffer))
   unfolding run bookAfter step entered accepted
-  saved-reads name m handed e buffer =
+  saved-reads name m lent handed e buffer =
       let b : Book = openingBook G (cut F G s) in
-      let c : Command = save name m in
-      let now : Moment F G s (afterSave F s name m .image) (accepted b c) =
-      subst (λ (k : ℕ). Moment F G s (afterSave F s name m .image) (entered b c k)) e (run-moment F f s G g (checked-sound F s G g checked) (c ∷ []) (handed, tt) 1 (omega arith)) in
-      now .reads 0 _ refl name buffer (saved-typed F s name m e)
+      let c : Command = save name m lent in
+      let now : Moment F G s (afterSave F s name m lent .image) (accepted b c) =
+      subst (λ (k : ℕ). Moment F G s (afterSave F s name m lent .image) (entered b c k)) e
+      (run-moment F f s G g (checked-sound F s G g checked) (c ∷ []) (handed, tt) 1 (omega arith)) in
+      now .reads 0 _ refl name buffer (saved-typed F s name m lent G g e)

@@ -7,15 +7,16 @@ use native.Mathlib.Omega.{arith}
 use native.Mathlib.Nat.{mul-le-mul-left}
 use mathlib.Core.List.{List, [], _∷_}
 use lib.ListN.{length, take, length-map}
-use Rattle.format.specs.Refusals.{Refusal, numberOf, Try, refused, ok, _>>=_, number, valueOr}
+use Rattle.format.specs.Refusals.{Refusal, numberOf, Try, ok, _>>=_, valueOr}
 use Rattle.format.specs.RefusalLaws.{refused-ok, refusal-number}
-use Rattle.format.specs.Geometry.{Format, unknown, stated, Geometry, geometry, Disc, cut, flat, Write, written}
+use Rattle.format.specs.Geometry.{Format, unknown, stated, Geometry, geometry, Disc, cut, Write, written}
 use Rattle.format.specs.Arrangements.{Arranged}
 use Rattle.format.specs.Formats.{GoodFormat, four, good-arranged, stated-cases}
 use Rattle.format.specs.GeometryLaws.{no-disc, ImageOf, geometry-ok, cut-full, cut-flat, flat-long}
 use Rattle.format.specs.Layout.{slotsEach, slotsOf, directory, free, slots, entries}
 use Rattle.format.specs.Check.{broken}
-use Rattle.format.specs.Calls.{saveOn, deleteOn, renameOn, protectOn, asked, changed, answerBy, CheckAnswer, checkAnswerBy, afterCheck, afterSave, afterDelete, afterRename, afterProtect}
+use Rattle.format.specs.Calls.{saveOn, deleteOn, renameOn, protectOn, asked, listed, CheckAnswer, checkAnswerBy, ChangeAnswer, changeAnswerBy, afterCheck, afterSave, afterDelete, afterRename, afterProtect}
+use Rattle.format.specs.ListedLaws.{Outcome, stays, writes, outcome}
 use Rattle.history.specs.History.{Command, list, read, save, delete, rename, protect, check, view, step, run, Book, accepted, entered, openingBook, bookAfter, sumDirectory}
 use Rattle.history.specs.Demand3.{isSound, Handed, AllHanded, Moment, Demand3}
 use Rattle.soundness.specs.Slots.{inUse-many, slots-many}
@@ -66,18 +67,16 @@ module _ (F : Format) (f : GoodFormat F) (s : List ℕ) (G : Geometry) (g : geom
   same-geometry a = ap (geometry F) (a .long) ∙ g
 
   -- a command that writes
-  writing : (image : List ℕ) (b : Book) (c : Command) (h : Geometry → Disc → Try Refusal (List Write)) → At image b
+  writing : (image buffer : List ℕ) (b : Book) (c : Command) (h : Geometry → Disc → Try Refusal (List Write)) → At image b
       → ((ws : List Write) → h G (cut F G image) ≡ ok ws → State G (cut F G s) (written ws (cut F G image)) (accepted b c))
-      → At (answerBy image (changed F image h) .image) (entered b c (answerBy image (changed F image h) .number))
-  unfolding changed entered answerBy valueOr number _>>=_
-  writing image b c h a keeps = rw (same-geometry a) (case (h G (cut F G image)) refl)
+      → At (changeAnswerBy image buffer (listed F image (length buffer) h) .image)
+      (entered b c (changeAnswerBy image buffer (listed F image (length buffer) h) .number))
+  unfolding changeAnswerBy entered
+  writing image buffer b c h a keeps = case (outcome F image buffer h G (same-geometry a))
     where
-      after : Try Refusal (List Write) → Try Refusal (List ℕ)
-      after r = r >>= λ ws. ok (flat F G (written ws (cut F G image)))
-
-      case : (r : Try Refusal (List Write)) → h G (cut F G image) ≡ r → At (valueOr image (after r)) (entered b c (number (after r)))
-      case (refused e) p = subst (At image) (sym (refused-book b c (numberOf e) (refusal-number e))) a
-      case (ok ws) p =
+      case : {r : ChangeAnswer} → Outcome F G image buffer h r → At (r .image) (entered b c (r .number))
+      case (stays e) = subst (At image) (sym (refused-book b c (numberOf e) (refusal-number e))) a
+      case (writes ws p fits) =
           let st = keeps ws p in
           record {
             long = flat-long F G arr (written ws (cut F G image)) (st .full) ∙ sym (size .long);
@@ -95,10 +94,14 @@ module _ (F : Format) (f : GoodFormat F) (s : List ℕ) (G : Geometry) (g : geom
   unfolding step accepted afterSave afterDelete afterRename afterProtect
   step-at image b (list buffer) h a = asking image b (list buffer) _ refl a
   step-at image b (read name buffer) h a = asking image b (read name buffer) _ refl a
-  step-at image b (save name m) h a = writing image b (save name m) (λ G d. saveOn G d name m) a (λ ws p. save-state bounded (a .state) name m ws h p)
-  step-at image b (delete name) h a = writing image b (delete name) (λ G d. deleteOn G d name) a (λ ws p. delete-state bounded (a .state) name ws p)
-  step-at image b (rename old new) h a = writing image b (rename old new) (λ G d. renameOn G d old new) a (λ ws p. rename-state bounded (a .state) old new ws p)
-  step-at image b (protect name v) h a = writing image b (protect name v) (λ G d. protectOn G d name v) a (λ ws p. protect-state bounded (a .state) name v ws p)
+  step-at image b (save name m buffer) h a =
+      writing image buffer b (save name m buffer) (λ G d. saveOn G d name m) a (λ ws p. save-state bounded (a .state) name m buffer ws h p)
+  step-at image b (delete name buffer) h a =
+      writing image buffer b (delete name buffer) (λ G d. deleteOn G d name) a (λ ws p. delete-state bounded (a .state) name buffer ws p)
+  step-at image b (rename old new buffer) h a =
+      writing image buffer b (rename old new buffer) (λ G d. renameOn G d old new) a (λ ws p. rename-state bounded (a .state) old new buffer ws p)
+  step-at image b (protect name v buffer) h a =
+      writing image buffer b (protect name v buffer) (λ G d. protectOn G d name v) a (λ ws p. protect-state bounded (a .state) name v buffer ws p)
   step-at image b check h a = asking image b check _ refl a
   step-at image b (view x y) h a = asking image b (view x y) _ refl a
 

@@ -27,10 +27,10 @@ isSound = record { number = 0; rule = 0 }
 abbrev pub Handed : Command → Type 0
 Handed (list buffer) = Unit {0}
 Handed (read name buffer) = Unit {0}
-Handed (save name m) = m .transfer < 65536
-Handed (delete name) = Unit {0}
-Handed (rename old new) = Unit {0}
-Handed (protect name on) = Unit {0}
+Handed (save name m buffer) = m .transfer < 65536
+Handed (delete name buffer) = Unit {0}
+Handed (rename old new buffer) = Unit {0}
+Handed (protect name on buffer) = Unit {0}
 Handed check = Unit {0}
 Handed (view t s) = Unit {0}
 
@@ -55,8 +55,9 @@ pub record Moment (F : Format) (G : Geometry) (s image : List ℕ) (b : Book) : 
   pub free-chain : length (free G (cut F G image)) ≡ sumFree G (cut F G s) b
   pub free-count : freeCount (cut F G image) ≡ sumFree G (cut F G s) b
   pub free-added : length (free G (cut F G image)) + 1 + sumDirectory G (cut F G s) b + sumFiles G (cut F G s) b ≡ sectors G
-  -- of every save possible now: it answers what the book says, so 8 exactly where the sum is smaller than the need
-  pub saves : (name : List ℕ) (m : Module) → afterSave F image name m .number ≡ number (saveSays G (cut F G s) b name m)
+  -- of every save possible now, lent any buffer: it answers what the book says, so 8 exactly where the sum is smaller than the need
+  pub saves : (name : List ℕ) (m : Module) (buffer : List ℕ)
+      → afterSave F image name m buffer .number ≡ number (saveSays G (cut F G s) b name m (length buffer))
   -- every file of the book, under every text that is stored as its name, and lent any buffer; and there is such a text
   pub reads : (i : ℕ) (f : File) → getElem? (b .files) i ≡ some f → (typed buffer : List ℕ) → stored typed ≡ some (f .name)
       → afterRead F image typed buffer ≡ readAnswerBy buffer (says (f .reading) (length buffer))

@@ -14,21 +14,27 @@ use Rattle.format.specs.Names.{stored}
 use Rattle.format.specs.Layout.{slotsEach, nameOf, lengthOf, directory, entries}
 use Rattle.format.specs.Modules.{Module, allowed, sectorsFor}
 use Rattle.format.specs.Effects.{reading}
-use Rattle.format.specs.Calls.{Answer, answered, afterList, afterRead, afterSave, afterDelete, afterRename, afterProtect, afterCheck, viewNumber}
+use Rattle.format.specs.Writes.{listSize}
+use Rattle.format.specs.Calls.{Answer, answered, ChangeAnswer, afterList, afterRead, afterSave, afterDelete, afterRename, afterProtect, afterCheck, viewNumber}
 
 -- ---- runs
 
 -- "The list gives each command's arguments as handed in: the bytes of every name, sheet and lent buffer, and every number". A module is a
--- save's page, start, transfer and sheet. "A blank disc is itself a start", and so no command of a run.
+-- save's page, start, transfer and sheet. "A blank disc is itself a start", and "After a replay demand 3 starts anew from the next sound image": so neither
+-- is a command of a run, and the claim is over runs from any sound image.
 pub data Command : Type 0 where
   list : (buffer : List ℕ) → Command
   read : (name buffer : List ℕ) → Command
-  save : (name : List ℕ) (m : Module) → Command
-  delete : (name : List ℕ) → Command
-  rename : (old new : List ℕ) → Command
-  protect : (name : List ℕ) (on : ℕ) → Command
+  save : (name : List ℕ) (m : Module) (buffer : List ℕ) → Command
+  delete : (name buffer : List ℕ) → Command
+  rename : (old new buffer : List ℕ) → Command
+  protect : (name : List ℕ) (on : ℕ) (buffer : List ℕ) → Command
   check : Command
   view : (track sector : ℕ) → Command
+
+-- of a command that gives the list of its writes: the number, and the image
+abbrev pub leaving : ChangeAnswer → Answer
+leaving a = answered (a .number) (a .image)
 
 module _ (F : Format) where
   -- What a command answers, and the image as it leaves it: the definitions that the public calls' contracts cite. List, read, check and view
@@ -36,10 +42,10 @@ module _ (F : Format) where
   unfoldable pub step : List ℕ → Command → Answer
   step image (list buffer) = answered (afterList F image buffer .number) image
   step image (read name buffer) = answered (afterRead F image name buffer .number) image
-  step image (save name m) = afterSave F image name m
-  step image (delete name) = afterDelete F image name
-  step image (rename old new) = afterRename F image old new
-  step image (protect name on) = afterProtect F image name on
+  step image (save name m buffer) = leaving (afterSave F image name m buffer)
+  step image (delete name buffer) = leaving (afterDelete F image name buffer)
+  step image (rename old new buffer) = leaving (afterRename F image old new buffer)
+  step image (protect name on buffer) = leaving (afterProtect F image name on buffer)
   step image check = answered (afterCheck F image .number) image
   step image (view t s) = answered (viewNumber F image t s) image
 
@@ -82,10 +88,10 @@ renamed old new f = record { name = cond (named old f) new (f .name); count = f 
 unfoldable pub accepted : Book → Command → Book
 accepted b (list buffer) = b
 accepted b (read name buffer) = b
-accepted b (save name m) = standing b (record { name = nineOf name; count = sectorsFor (length (m .bytes)); reading = some m } ∷ b .files)
-accepted b (delete name) = standing b (filter (λ f. not (named (nineOf name) f)) (b .files))
-accepted b (rename old new) = standing b (map (renamed (nineOf old) (nineOf new)) (b .files))
-accepted b (protect name on) = b
+accepted b (save name m buffer) = standing b (record { name = nineOf name; count = sectorsFor (length (m .bytes)); reading = some m } ∷ b .files)
+accepted b (delete name buffer) = standing b (filter (λ f. not (named (nineOf name) f)) (b .files))
+accepted b (rename old new buffer) = standing b (map (renamed (nineOf old) (nineOf new)) (b .files))
+accepted b (protect name on buffer) = b
 accepted b check = b
 accepted b (view t s) = b
 
@@ -131,10 +137,12 @@ module _ (G : Geometry) (start : Disc) (b : Book) where
   unfoldable pub sumNeed : Module → ℕ
   sumNeed m = sectorsFor (length (m .bytes)) + cond (eqb (length (b .files)) (slotsEach * sumDirectory)) 1 0
 
-  -- What a save answers by the book: "refused for room exactly when that sum is too small", where no refusal that ranks before applies.
-  unfoldable pub saveSays : (name : List ℕ) (m : Module) → Try Refusal (Unit {0})
-  saveSays name m = do
+  -- What a save answers by the book, lent so much room for its list: "refused for room exactly when that sum is too small", where no refusal that ranks
+  -- before applies; then 10, where the list is longer: its writes are the sectors that the save needs, the system sector and one of the directory.
+  unfoldable pub saveSays : (name : List ℕ) (m : Module) (room : ℕ) → Try Refusal (Unit {0})
+  saveSays name m room = do
     nine ← stored name orRefuse NAME
     refuse MODULE if not (allowed m)
     refuse TAKEN if any (named nine) (b .files)
     refuse ROOM if ltb sumFree (sumNeed m)
+    refuse SHORT if ltb room (listSize (sumNeed m + 2))

@@ -1,5 +1,6 @@
 pub mod History
 pub mod Demand3
+pub mod Replays
 pub mod OnlyOne
 pub mod BookFiles
 pub mod RenameProtect
@@ -18,3 +19,4 @@ pub mod Corollaries
 pub mod BlankLaid
 pub mod BlankStarts
 pub mod Moved
+pub mod ReplaysHold

@@ -9,7 +9,7 @@ use mathlib.Core.List.{List, [], _∷_, map, _++_, head?, map-map}
 use lib.ListN.{length, getElem?}
 use lib.Seq.{length-take-le}
 use lib.Dec.{eqb, ltb}
-use borrow.Author.Tests.{ne-eqb, eq-eqb}
+use borrow.Author.Tests.{ne-eqb, eq-eqb, ltb-false}
 use Rattle.format.specs.Lists.{any, filter, sum, Once}
 use Rattle.format.specs.ListLaws.{true-and, All, all-map, all-both, true-all, all-mapped, same-refl}
 use Rattle.format.specs.Refusals.{Refusal, NAME, UNSOUND, ABSENT, TAKEN, MODULE, ROOM, NOT-PLAIN, SHORT, Try, refused, ok, _>>=_, _>>_, refuse_if_, _orRefuse_, number, valueOr}
@@ -20,7 +20,10 @@ use Rattle.format.specs.Layout.{slotsEach, Slot, nameOf, lengthOf, free, openSl
 use Rattle.format.specs.ChainLaws.{chain-ends}
 use Rattle.format.specs.Modules.{Module, allowed, sectorsFor}
 use Rattle.format.specs.Effects.{isSome, growth, needed, saveWrites, reading}
-use Rattle.format.specs.Calls.{readOn, saveBeforeOn, saveOn, asked, changed, answerBy, checkAnswerBy, readAnswerBy, afterCheck, afterRead, afterSave}
+use Rattle.format.specs.Writes.{writeList, listSize}
+use Rattle.format.specs.Calls.{readOn, saveBeforeOn, saveOn, asked, listed, save, checkAnswerBy, readAnswerBy, afterCheck, afterRead, afterSave}
+use Rattle.format.specs.WriteLaws.{list-long}
+use Rattle.format.specs.ListedLaws.{change-number}
 use Rattle.history.specs.History.{File, Book, named, says, sumDirectory, sumFiles, sumFree, sumNeed, saveSays}
 use Rattle.history.specs.Demand3.{allEnd, Moment}
 use Rattle.soundness.specs.NameCounts.{ofName}
@@ -29,10 +32,12 @@ use Rattle.soundness.specs.Filed.{GoodEntry, chain-few, entriesOf, chainsOf, di
 use Rattle.soundness.specs.Laid.{free-few, free-is, laid-sound}
 use Rattle.soundness.specs.Frames.{laid-sum}
 use Rattle.soundness.specs.Found.{slot-length, find-is, open-none, open-some}
+use Rattle.soundness.specs.WriteFacts.{savable}
+use Rattle.soundness.specs.ListedWrites.{save-on-disc}
+use Rattle.soundness.specs.SavedList.{saved-many}
 use Rattle.format.specs.Permutations.{perm-map, perm-filter, perm-length, perm-all, perm-back, perm-few, perm-sum}
 use Rattle.history.specs.OnlyOne.{any-head, one-at, all-got}
 use Rattle.history.specs.BookFiles.{fileOf, filesOf, named-files, named-few}
-use Rattle.history.specs.Answers.{number-same}
 use Rattle.history.specs.State.{State, files-many}
 
 -- what read gives by the book, whose file of the name is f, if there is one
@@ -40,21 +45,29 @@ gives : Option File → (room : ℕ) → Try Refusal Module
 gives none room = refused ABSENT
 gives (some f) room = says (f .reading) room
 
--- the answers of a save by the disc and by the book, where their tests agree
-same-answer : (o : Option (List ℕ)) (c : Bool) (t t′ : List ℕ → Bool) (r r′ : Bool) (ws : List ℕ → List Write) → ((nine : List ℕ) → t nine ≡ t′ nine) → r ≡ r′
-    → number ((o orRefuse NAME >>= λ nine. (refuse MODULE if c >> (refuse UNSOUND if false >> (refuse TAKEN if t nine >> ok nine)))) >>= λ nine. (refuse ROOM if r >> ok (ws nine)))
-    ≡ number (o orRefuse NAME >>= λ nine. (refuse MODULE if c >> (refuse TAKEN if t′ nine >> refuse ROOM if r′)))
+-- the answers of a save by the disc and by the book, where their tests agree: the last need agree only where the one for room has passed
+same-answer : {A : Type 0} (o : Option (List ℕ)) (c : Bool) (t t′ : List ℕ → Bool) (r r′ : Bool) (l : List Write → Bool) (l′ : Bool)
+    (ws : List ℕ → List Write) (a : List Write → A)
+    → ((nine : List ℕ) → t nine ≡ t′ nine) → r ≡ r′ → ((nine : List ℕ) → r′ ≡ false → l (ws nine) ≡ l′)
+    → number ((o orRefuse NAME >>= λ nine. (refuse MODULE if c >> (refuse UNSOUND if false >> (refuse TAKEN if t nine >> ok nine))))
+    >>= (λ nine. (refuse ROOM if r >> ok (ws nine))) >>= λ ws. (refuse SHORT if l ws >> ok (a ws)))
+    ≡ number (o orRefuse NAME >>= λ nine. (refuse MODULE if c >> (refuse TAKEN if t′ nine >> (refuse ROOM if r′ >> refuse SHORT if l′))))
 unfolding number _orRefuse_ _>>=_ _>>_ refuse_if_
-same-answer none c t t′ r r′ ws e f = refl
-same-answer (some nine) c t t′ r r′ ws e f = rw (e nine, f) (by c (t′ nine) r′)
+same-answer none c t t′ r r′ l l′ ws a e f g = refl
+same-answer {A} (some nine) c t t′ r r′ l l′ ws a e f g = rw (e nine, f) (by c (t′ nine) r′ (g nine))
   where
-    by : (c t r : Bool)
-        → number ((refuse MODULE if c >> (refuse UNSOUND if false >> (refuse TAKEN if t >> ok nine))) >>= λ nine. (refuse ROOM if r >> ok (ws nine)))
-        ≡ number (refuse MODULE if c >> (refuse TAKEN if t >> refuse ROOM if r))
-    by true t r = refl
-    by false true r = refl
-    by false false true = refl
-    by false false false = refl
+    last : (x : Bool) → number {A = A} (refuse SHORT if x >> ok (a (ws nine))) ≡ number (refuse SHORT if x)
+    last true = refl
+    last false = refl
+
+    by : (c t r : Bool) → (r ≡ false → l (ws nine) ≡ l′)
+        → number ((refuse MODULE if c >> (refuse UNSOUND if false >> (refuse TAKEN if t >> ok nine)))
+        >>= (λ nine. (refuse ROOM if r >> ok (ws nine))) >>= λ ws. (refuse SHORT if l ws >> ok (a ws)))
+        ≡ number (refuse MODULE if c >> (refuse TAKEN if t >> (refuse ROOM if r >> refuse SHORT if l′)))
+    by true t r g = refl
+    by false true r g = refl
+    by false false true g = refl
+    by false false false g = rw (g refl) (last l′)
 
 module _ {G : Geometry} {start d : Disc} {b : Book} (st : State G start d b) where
   -- ---- each sector in one place
@@ -125,12 +138,23 @@ module _ {G : Geometry} {start d : Disc} {b : Book} (st : State G start d b) whe
 
   -- ---- what a save answers
 
-  save-on : (name : List ℕ) (m : Module) → number (saveOn G d name m) ≡ number (saveSays G start b name m)
+  -- its list, where there is room on the disc, has the length that the book says
+  list-size : (nine : List ℕ) (m : Module) → ltb (sumFree G start b) (sumNeed G start b m) ≡ false
+      → length (writeList G (saveWrites G d nine m)) ≡ listSize (sumNeed G start b m + 2)
+  list-size nine m e =
+      let room : needed G d (length (m .bytes)) ≤ length (free G d) =
+      omega (arith, ltb-false (sumFree G start b) (sumNeed G start b m) e, free-sum, need-is m) in
+      let long = list-long G (save-on-disc G d (st .full) (savable G d (laid-sound (st .laid))) nine m room) in
+      omega (arith, long, saved-many G d nine m room, need-is m)
+
+  save-on : {A : Type 0} (name : List ℕ) (m : Module) (room : ℕ) (a : List Write → A)
+      → number (saveOn G d name m >>= λ ws. (refuse SHORT if ltb room (length (writeList G ws)) >> ok (a ws))) ≡ number (saveSays G start b name m room)
   unfolding saveOn saveBeforeOn saveSays
-  save-on name m =
+  save-on name m room a =
       rw (laid-sound (st .laid)) (same-answer (stored name) (not (allowed m)) (λ nine. isSome (find G d nine)) (λ nine. any (named nine) (b .files))
-      (ltb (length (free G d)) (needed G d (length (m .bytes)))) (ltb (sumFree G start b) (sumNeed G start b m)) (λ nine. saveWrites G d nine m)
-      taken (ap₂ ltb (sym free-sum) (sym (need-is m))))
+      (ltb (length (free G d)) (needed G d (length (m .bytes)))) (ltb (sumFree G start b) (sumNeed G start b m))
+      (λ ws. ltb room (length (writeList G ws))) (ltb room (listSize (sumNeed G start b m + 2))) (λ nine. saveWrites G d nine m) a
+      taken (ap₂ ltb (sym free-sum) (sym (need-is m))) (λ nine e. ap (ltb room) (list-size nine m e)))
 
   -- ---- what a read gives
 
@@ -175,7 +199,7 @@ module _ {G : Geometry} {start d : Disc} {b : Book} (st : State G start d b) whe
 -- ---- the moment
 
 pub moment : (F : Format) (G : Geometry) (s image : List ℕ) (b : Book) → geometry F (length image) ≡ ok G → length image ≡ length s → State G (cut F G s) (cut F G image) b → Moment F G s image b
-unfolding asked changed _>>=_ number valueOr afterCheck checkAnswerBy afterSave answerBy afterRead
+unfolding asked listed _>>=_ number valueOr afterCheck checkAnswerBy afterSave afterRead
 moment F G s image b g long st =
     let o = subst (Once (sectors G)) (sym (places-are st)) (st .laid .once) in
     record {
@@ -187,7 +211,7 @@ moment F G s image b g long st =
       free-chain = sym (free-sum st);
       free-count = st .laid .free-counted ∙ sym (ap length (free-is (st .laid))) ∙ sym (free-sum st);
       free-added = added-sum st;
-      saves = λ name m. rw g (number-same (saveOn G (cut F G image) name m) _ ∙ save-on st name m);
+      saves = λ name m buffer. change-number image buffer (save F image name m (length buffer)) ∙ rw g (save-on st name m (length buffer) _);
       reads = λ i f e typed buffer t. rw g (ap (readAnswerBy buffer) (file-reads st i f e typed (length buffer) t));
       typable = λ i f e. all-got i f (all-typable st) e;
       absent = λ typed nine buffer t e. rw g (ap (readAnswerBy buffer) (absent-reads st typed nine (length buffer) t e));

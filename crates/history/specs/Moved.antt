@@ -10,17 +10,17 @@ use Rattle.format.specs.Geometry.{Format, stated, arranged, Geometry, geometry,
 use Rattle.format.specs.Calls.{Answer, answered, CheckAnswer, ListAnswer, ReadAnswer}
 use Rattle.format.specs.Moving.{Arrangement, movedForm, movedAnswer, Moves}
 use Rattle.format.specs.MovingLaws.{moved-sectors, card-moves, card-is}
-use Rattle.history.specs.History.{openingBook, Command, list, read, save, delete, rename, protect, check, view, step, run, Book, entered, bookAfter}
+use Rattle.history.specs.History.{openingBook, Command, list, read, save, delete, rename, protect, check, view, leaving, step, run, Book, entered, bookAfter}
 
 module _ (F : Format) (A : List ℕ) (m : Moves F A) where
   pub step-moved : (image : List ℕ) (c : Command) → step (arranged A F) (movedForm F A image) c ≡ movedAnswer F A (step F image c)
   unfolding step
   step-moved image (list buffer) = ap (λ (r : ListAnswer). answered (r .number) (movedForm F A image)) (m .list image buffer)
   step-moved image (read name buffer) = ap (λ (r : ReadAnswer). answered (r .number) (movedForm F A image)) (m .read image name buffer)
-  step-moved image (save name mod′) = m .save image name mod′
-  step-moved image (delete name) = m .delete image name
-  step-moved image (rename old new) = m .rename image old new
-  step-moved image (protect name on) = m .protect image name on
+  step-moved image (save name mod′ buffer) = ap leaving (m .save image name mod′ buffer)
+  step-moved image (delete name buffer) = ap leaving (m .delete image name buffer)
+  step-moved image (rename old new buffer) = ap leaving (m .rename image old new buffer)
+  step-moved image (protect name on buffer) = ap leaving (m .protect image name on buffer)
   step-moved image check = ap (λ (r : CheckAnswer). answered (r .number) (movedForm F A image)) (m .check image)
   step-moved image (view t s) = ap (λ (n : ℕ). answered n (movedForm F A image)) (m .view-number image t s)
 

@@ -62,9 +62,10 @@ module _ {G : Geometry} {start d : Disc} {b : Book} (u : Bounded G) (st : State 
 
   -- ---- protect
 
-  pub protect-state : (name : List ℕ) (on : ℕ) (ws : List Write) → protectOn G d name on ≡ ok ws → State G start (written ws d) (accepted b (protect name on))
+  pub protect-state : (name : List ℕ) (on : ℕ) (buffer : List ℕ) (ws : List Write) → protectOn G d name on ≡ ok ws
+      → State G start (written ws d) (accepted b (protect name on buffer))
   unfolding accepted
-  protect-state name on ws p =
+  protect-state name on buffer ws p =
       let q = protect-ok G d name on ws p in
       let f = found (st .laid .filed) (q .found) in
       let a : ℕ = protectedAs (not (eqb on 0)) (attributeOf (q .s)) in
@@ -79,9 +80,9 @@ module _ {G : Geometry} {start d : Disc} {b : Book} (u : Bounded G) (st : State 
 
   -- ---- delete
 
-  pub delete-state : (name : List ℕ) (ws : List Write) → deleteOn G d name ≡ ok ws → State G start (written ws d) (accepted b (delete name))
+  pub delete-state : (name buffer : List ℕ) (ws : List Write) → deleteOn G d name ≡ ok ws → State G start (written ws d) (accepted b (delete name buffer))
   unfolding accepted
-  delete-state name ws p =
+  delete-state name buffer ws p =
       let q = delete-ok G d name ws p in
       let f = found (st .laid .filed) (q .found) in
       let r = delete-leaves u (st .laid) (st .full) (q .s) f in
@@ -97,9 +98,10 @@ module _ {G : Geometry} {start d : Disc} {b : Book} (u : Bounded G) (st : State 
 
   -- ---- rename
 
-  pub rename-state : (old new : List ℕ) (ws : List Write) → renameOn G d old new ≡ ok ws → State G start (written ws d) (accepted b (rename old new))
+  pub rename-state : (old new buffer : List ℕ) (ws : List Write) → renameOn G d old new ≡ ok ws
+      → State G start (written ws d) (accepted b (rename old new buffer))
   unfolding accepted
-  rename-state old new ws p =
+  rename-state old new buffer ws p =
       let q = rename-ok G d old new ws p in
       let f = found (st .laid .filed) (q .found) in
       let r = renamed-entry (st .laid) (st .full) (q .s) f (q .nine′) (stored-nine new (q .nine′) (q .typed′)) (stored-legal new (q .nine′) (q .typed′)) (not-found (st .laid .filed) (q .nine′) (q .absent)) in
@@ -118,9 +120,10 @@ module _ {G : Geometry} {start d : Disc} {b : Book} (u : Bounded G) (st : State 
 
   -- ---- save
 
-  pub save-state : (name : List ℕ) (m : Module) (ws : List Write) → m .transfer < 65536 → saveOn G d name m ≡ ok ws → State G start (written ws d) (accepted b (save name m))
+  pub save-state : (name : List ℕ) (m : Module) (buffer : List ℕ) (ws : List Write) → m .transfer < 65536 → saveOn G d name m ≡ ok ws
+      → State G start (written ws d) (accepted b (save name m buffer))
   unfolding accepted sumDirectory needed growth
-  save-state name m ws small p =
+  save-state name m buffer ws small p =
       let q = save-ok G d name m ws p in
       let fresh = not-found (st .laid .filed) (q .nine) (q .absent) in
       let room : sectorsFor (length (m .bytes)) + cond (isSome (openSlot G d)) 0 1 ≤ length (st .frees) = omega (arith, q .room, ap length (free-is (st .laid))) in

@@ -15,7 +15,7 @@ use Rattle.format.specs.Geometry.{Format, Geometry, Disc, geometry}
 use Rattle.format.specs.Check.{sound}
 use Rattle.format.specs.Effects.{listing}
 use Rattle.format.specs.Calls.{ListAnswer, listOn, listAnswerBy, afterList}
-use Rattle.lookup.specs.Laws.{asked-size, asked-opened}
+use Rattle.answers.specs.Laws.{asked-size, asked-opened}
 
 -- a number, the length of the records and a buffer, as an answer
 abbrev listed : ℕ → ℕ → List ℕ → ListAnswer

@@ -1,5 +1,4 @@
 pub mod Meaning
 pub mod Laws
-pub mod Storing
 pub mod Whole
 pub mod Answer

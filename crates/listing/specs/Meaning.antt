@@ -1,15 +1,12 @@
--- The records of a listing by their parts, what storing bytes in a buffer gives, and the answer of the call.
+-- The records of a listing by their parts, and the answer of the call.
 -- Assumes nothing.
-use mathlib.Core.Path.{_≡_}
-use Prim.Native.Nat.{ℕ, _+_}
+use Prim.Native.Nat.{ℕ}
 use mathlib.Core.List.{List, [], _∷_, _++_, map}
-use lib.ListN.{length}
-use lib.Seq.{sets}
 use Rattle.format.specs.Lists.{word, joined}
 use Rattle.format.specs.Geometry.{Disc}
 use Rattle.format.specs.Layout.{freeCount, usedCount, discNameOf, Slot, inUse, nameOf, lengthOf, attributeOf}
 use Rattle.format.specs.Calls.{ListAnswer}
-use Rattle.listing.specs.declared.Listed.{Listed}
+use Rattle.answers.specs.declared.Filled.{Filled}
 
 -- "kind 1, nine disc name bytes, free count, used count (low first)"
 abbrev pub discRecord : Disc → List ℕ
@@ -23,11 +20,6 @@ entryRecord s = 2 ∷ nameOf s ++ word (lengthOf s) ++ attributeOf s ∷ []
 unfoldable pub recordsOf : List Slot → List ℕ
 recordsOf ss = joined (map entryRecord (inUse ss))
 
--- Bytes were stored at a place of a buffer: the buffer afterwards, and the place after the bytes.
-pub record Stored (before : List ℕ) (at : ℕ) (bytes after : List ℕ) (next : ℕ) : Type 0 where
-  pub buffer : after ≡ sets before at bytes
-  pub place : next ≡ at + length bytes
-
 -- what the code answers, and the buffer afterwards
-abbrev pub listAnswer : Listed → List ℕ → ListAnswer
+abbrev pub listAnswer : Filled → List ℕ → ListAnswer
 listAnswer r buffer = record { number = r .number; size = r .length; buffer = buffer }

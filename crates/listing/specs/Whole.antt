@@ -9,9 +9,9 @@ use Rattle.format.specs.Lists.{front}
 use Rattle.format.specs.Geometry.{Geometry, Disc}
 use Rattle.format.specs.Layout.{slots}
 use Rattle.format.specs.Effects.{listing}
-use Rattle.listing.specs.Meaning.{discRecord, recordsOf, Stored}
+use Rattle.listing.specs.Meaning.{discRecord, recordsOf}
 use Rattle.listing.specs.Laws.{listing-parts}
-use Rattle.listing.specs.Storing.{Storing, storing-all, storing-step, storing-room, sets-front}
+use Rattle.records.specs.Storing.{Stored, Storing, storing-all, storing-step, storing-room, sets-front}
 
 module _ (G : Geometry) (d : Disc) (b : List ℕ) (room : length (listing G d) ≤ length b) where
   at-start : Storing b 0 (listing G d) b 0 (discRecord d ++ (recordsOf (slots G d) ++ 0 ∷ []))

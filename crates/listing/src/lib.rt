@@ -1,21 +1,22 @@
 // List as a call: its refusals in document 01's order, then its records at the front of a lent buffer.
 // The length of the records and their bytes are what stands on the disc, sound or not.
+use answers::Filled;
 use directory::Step;
 use disc::Geometry;
 use disc::SectorNo;
 use disc::Sized;
 use disc::Stated;
 ghost use mathlib.Core.Path.{_≡_};
-ghost use mathlib.Core.List.{[], _∷_, _++_};
+ghost use mathlib.Core.List.{[], _∷_};
 ghost use Prim.Native.Nat.{_+_, _*_, _/_, _%_, _≤_, _<_};
 ghost use lib.ListN.{length};
-ghost use lib.Seq.{sets};
 ghost use Rattle.format.specs.Lists.{front};
 ghost use Rattle.format.specs.Layout.{slotsEach, inUse, slotAt, slotsAt, slots, entries};
 ghost use Rattle.format.specs.Effects.{listing};
 ghost use Rattle.format.specs.Calls.{listOn, listAnswerBy, afterList};
 ghost use Rattle.disc.specs.Meaning.{kindOf, geo, sectorsOf, Image};
-ghost use Rattle.listing.specs.Meaning.{entryRecord, recordsOf, discRecord, Stored, listAnswer};
+ghost use Rattle.records.specs.Storing.{Stored};
+ghost use Rattle.listing.specs.Meaning.{entryRecord, recordsOf, discRecord, listAnswer};
 
 // 1 for a slot with an entry, 0 for a free one.
 fn count_slot(image: &[u8], g: Geometry, n: SectorNo, i: usize) -> usize
@@ -79,30 +80,6 @@ fn high(n: u16) -> u8
     (n / 256) as u8
 }
 
-// Stores bytes at a place of the buffer.
-fn put(buffer: &mut [u8], at: usize, bytes: &[u8])
-    requires { ⌜ at + length (now bytes) ≤ length (now buffer) ⌝ }
-    ensures { λ _. ⌜ now (buffer .exit) ≡ sets (now (buffer .entry)) at (now (bytes .entry)) ⌝ }
-{
-    let mut i: usize = 0;
-    while i < bytes.len() {
-        buffer[at + i] = bytes[i];
-        i += 1;
-    }
-}
-
-// Stores a record, and gives the place after it.
-fn put_record(buffer: &mut [u8], at: usize, kind: u8, name: &[u8], numbers: &[u8]) -> usize
-    requires { ⌜ at + (1 + length (now name) + length (now numbers)) ≤ length (now buffer) ⌝ }
-    ensures { λ r. ⌜ Stored (now (buffer .entry)) at (kind ∷ now (name .entry) ++ now (numbers .entry)) (now (buffer .exit)) r ⌝ }
-{
-    buffer[at] = kind;
-    put(buffer, at + 1, name);
-    let next = at + 1 + name.len();
-    put(buffer, next, numbers);
-    next + numbers.len()
-}
-
 // Stores the record of the disc.
 fn put_disc(image: &[u8], g: Geometry, buffer: &mut [u8]) -> usize
     requires { ⌜ Image g (now image) × (14 ≤ length (now buffer)) ⌝ }
@@ -113,7 +90,7 @@ fn put_disc(image: &[u8], g: Geometry, buffer: &mut [u8]) -> usize
     let free = disc::word_of(image, g, SectorNo(0), 0x14);
     let used = disc::word_of(image, g, SectorNo(0), 0x16);
     let counts = [low(free), high(free), low(used), high(used)];
-    put_record(buffer, 0, 1, &image[start..end], &counts)
+    records::put_record(buffer, 0, 1, &image[start..end], &counts)
 }
 
 // Stores the record of the entry in slot i of sector n.
@@ -132,7 +109,7 @@ fn put_entry(
     let end = start + 9;
     let entry = directory::entry_of(image, g, n, i);
     let numbers = [low(entry.length), high(entry.length), entry.attribute];
-    put_record(buffer, at, 2, &image[start..end], &numbers)
+    records::put_record(buffer, at, 2, &image[start..end], &numbers)
 }
 
 // Stores what slot i of sector n adds to the records: nothing where it is free.
@@ -187,46 +164,30 @@ fn put_listing(image: &[u8], g: Geometry, buffer: &mut [u8])
     buffer[last] = 0;
 }
 
-// The answer of list: the number, and the length of the records. The layout is C's, since the call is exported.
-#[repr(C)]
-pub struct Listed {
-    pub number: u32,
-    pub length: u32,
-}
-
 // The refusals 3 and 10, then the records.
-fn list_on(image: &[u8], g: Geometry, buffer: &mut [u8]) -> Listed
+fn list_on(image: &[u8], g: Geometry, buffer: &mut [u8]) -> Filled
     requires { ⌜ Image g (now image) ⌝ }
     ensures { λ r. ⌜ listAnswer r (now (buffer .exit)) ≡ listAnswerBy (now (buffer .entry)) (listOn (geo g) (sectorsOf g (now (image .entry))) (length (now (buffer .entry)))) ⌝ }
 {
     if !fsck::is_sound(image, g) {
-        return Listed {
-            number: refusals::UNSOUND,
-            length: 0,
-        };
+        return answers::refused(refusals::UNSOUND);
     }
     let length = listing_length(image, g);
     if buffer.len() < length {
-        return Listed {
-            number: refusals::SHORT,
-            length: 0,
-        };
+        return answers::refused(refusals::SHORT);
     }
     put_listing(image, g, buffer);
-    Listed {
+    Filled {
         number: refusals::DONE,
         length: length as u32,
     }
 }
 
-pub fn list(image: &[u8], stated: Stated, buffer: &mut [u8]) -> Listed
+pub fn list(image: &[u8], stated: Stated, buffer: &mut [u8]) -> Filled
     ensures { λ r. ⌜ listAnswer r (now (buffer .exit)) ≡ afterList (kindOf stated) (now (image .entry)) (now (buffer .entry)) ⌝ }
 {
     match disc::geometry_of(stated, image.len()) {
-        Sized::Wrong => Listed {
-            number: refusals::SIZE,
-            length: 0,
-        },
+        Sized::Wrong => answers::refused(refusals::SIZE),
         Sized::Of(g) => list_on(image, g, buffer),
     }
 }

@@ -17,8 +17,10 @@ use Rattle.format.specs.Layout.{Slot}
 use Rattle.format.specs.Modules.{Module}
 use Rattle.format.specs.Effects.{reading}
 use Rattle.format.specs.Calls.{readOn, readAnswerBy, afterRead}
-use Rattle.lookup.specs.Meaning.{entryOn, Refuses}
-use Rattle.lookup.specs.Laws.{entry-then, refuses-then, asked-size, asked-opened}
+use Rattle.answers.specs.Meaning.{Refuses}
+use Rattle.answers.specs.Laws.{refuses-then, asked-size, asked-opened}
+use Rattle.lookup.specs.Meaning.{entryOn}
+use Rattle.lookup.specs.Laws.{entry-then}
 use Rattle.reading.specs.Meaning.{headerOf, bytesIn}
 use Rattle.reading.specs.Answer.{readAnswer, refusal, doneWith, fileOn}
 use Rattle.reading.specs.declared.Header.{Header}

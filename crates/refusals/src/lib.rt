@@ -26,3 +26,5 @@ pub const NO_SECTOR: u32 = 11;
 pub const BAD_SHEET: u32 = 12;
 
 pub const TOTAL: u32 = 13;
+
+pub const BAD_LIST: u32 = 14;

@@ -3,18 +3,17 @@
 use disc::Geometry;
 use disc::Link;
 use disc::SectorNo;
-ghost use mathlib.Core.Path.{_≡_};
 ghost use Prim.Native.Nat.{_<_};
-ghost use Rattle.format.specs.Geometry.{written};
 ghost use Rattle.format.specs.Layout.{slotsEach, slotAt};
-ghost use Rattle.format.specs.Effects.{deleteWrites};
 ghost use Rattle.soundness.specs.WriteFacts.{Removable};
 ghost use Rattle.disc.specs.Meaning.{geo, sectorsOf, Image};
+ghost use Rattle.removal.specs.Meaning.{Removes};
 
-// Writes the slot's sector, the file's last sector and the system sector.
-pub fn remove(image: &mut [u8], g: Geometry, n: SectorNo, i: usize)
-    requires { ⌜ Image g (now image) × (n .0 < g .sectors) × (i < slotsEach) × Removable (geo g) (sectorsOf g (now image)) (slotAt (sectorsOf g (now image)) (n .0) i) ⌝ }
-    ensures { λ _. ⌜ sectorsOf g (now (image .exit)) ≡ written (deleteWrites (geo g) (sectorsOf g (now (image .entry))) (slotAt (sectorsOf g (now (image .entry))) (n .0) i)) (sectorsOf g (now (image .entry))) ⌝ }
+// Writes the slot's sector, the file's last sector and the system sector, and gives the file's last sector.
+pub fn remove(image: &mut [u8], g: Geometry, n: SectorNo, i: usize) -> SectorNo
+    requires { ⌜ Image g (now image) × (n .0 < g .sectors) × (i < slotsEach)
+        × Removable (geo g) (sectorsOf g (now image)) (slotAt (sectorsOf g (now image)) (n .0) i) ⌝ }
+    ensures { λ r. ⌜ Removes g (now (image .entry)) (now (image .exit)) (slotAt (sectorsOf g (now (image .entry))) (n .0) i) (r .0) ⌝ }
 {
     let entry = directory::entry_of(image, g, n, i);
     let sys = system::system_of(image, g);
@@ -22,7 +21,7 @@ pub fn remove(image: &mut [u8], g: Geometry, n: SectorNo, i: usize)
     let end = entry.last;
     let pointer = sys.pointer;
     let Link::To(last) = end else {
-        return;
+        return SectorNo(0);
     };
     let size = entry.length as usize;
     let free = sys.free as usize + size;
@@ -32,4 +31,5 @@ pub fn remove(image: &mut [u8], g: Geometry, n: SectorNo, i: usize)
     slots::put_slot(image, g, n, i, in_use - 1, &zeros);
     disc::put_link(image, g, last, pointer);
     system::put_system(image, g, first, free, used);
+    last
 }

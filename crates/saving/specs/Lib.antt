@@ -1,6 +1,3 @@
 pub mod Meaning
-pub mod Bytes
-pub mod Links
-pub mod Taking
-pub mod Writes
 pub mod Orders
+pub mod Listing

@@ -12,3 +12,6 @@ pub mod Pointers
 pub mod WriteFacts
 pub mod SystemWrites
 pub mod ChainWrites
+pub mod ListedWrites
+pub mod CopiedOut
+pub mod SavedList

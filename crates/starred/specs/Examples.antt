@@ -17,7 +17,8 @@ use Rattle.format.specs.Layout.{freeCount, emptySlot, freeSlot, inUse, slotAt, 
 use Rattle.format.specs.Check.{goodEntry, differ, rule1, rule2, counted, rule3, rule4, goodChain, rule5, rule6, rule7, rule8, broken}
 use Rattle.format.specs.Modules.{Module, allowed, sectorsFor, firstBody, laterBody, laterBodies, bodies, guessed, plain}
 use Rattle.format.specs.Effects.{withSlot, chained, systemWrite, entryBytes, growth, needed, entryWrites, saveWrites, deleteWrites, reading, listing, passing, version, blankFree, blankSystem, blankDisc}
-use Rattle.format.specs.Calls.{listOn, readOn, saveBeforeOn, saveOn, deleteOn, renameOn, protectOn, asked, changed, blank, answerBy, listAnswerBy, readAnswerBy, afterList, afterRead, afterSave, afterDelete, afterRename, afterProtect, afterBlank}
+use Rattle.format.specs.Writes.{recordOf, writeList, listSize}
+use Rattle.format.specs.Calls.{listOn, readOn, saveBeforeOn, saveOn, deleteOn, renameOn, protectOn, asked, listed, blank, answerBy, changeAnswerBy, listAnswerBy, readAnswerBy, afterList, afterRead, afterSave, afterDelete, afterRename, afterProtect, afterBlank}
 
 -- ---- what the examples are about
 
@@ -27,27 +28,31 @@ text []ᵗ = []
 text (c ∷ᵗ s) = code c ∷ text s
 
 -- a blank disc `PIECES` of T tracks
-blankOf : (tracks : ℕ) → List ℕ
+unfoldable pub blankOf : (tracks : ℕ) → List ℕ
 blankOf T = afterBlank ten (replicate (2560 * T) 0) (text "PIECES") .image
 
 -- a module of L bytes on page 0
 abbrev pub moduleOf : (start L : ℕ) → Module
 moduleOf start L = record { page = 0; start = start; transfer = start; bytes = replicate L 7 }
 
+-- a buffer for a list of n writes
+abbrev pub roomFor : ℕ → List ℕ
+roomFor n = replicate (listSize n) 0
+
 -- what each call that takes a file name answers for this one
 answers : List ℕ → List ℕ
 answers name =
     afterRead ten (blankOf 1) name [] .number
-    ∷ afterSave ten (blankOf 1) name (moduleOf 0 1) .number
-    ∷ afterDelete ten (blankOf 1) name .number
-    ∷ afterRename ten (blankOf 1) name (text "B") .number
-    ∷ afterRename ten (blankOf 1) (text "B") name .number
-    ∷ afterProtect ten (blankOf 1) name 1 .number
+    ∷ afterSave ten (blankOf 1) name (moduleOf 0 1) [] .number
+    ∷ afterDelete ten (blankOf 1) name [] .number
+    ∷ afterRename ten (blankOf 1) name (text "B") [] .number
+    ∷ afterRename ten (blankOf 1) (text "B") name [] .number
+    ∷ afterProtect ten (blankOf 1) name 1 [] .number
     ∷ []
 
 -- the disc of 40 tracks with `THU.PCS` saved
 afterThursday : List ℕ
-afterThursday = afterSave ten (blankOf 40) (text "THU.PCS") (moduleOf 0x2000 300) .image
+afterThursday = afterSave ten (blankOf 40) (text "THU.PCS") (moduleOf 0x2000 300) (roomFor 4) .image
 
 forty : Geometry
 forty = tracked ten 40
@@ -80,8 +85,8 @@ record Starred : Type 0 where
   count-40 : freeCount (cut ten forty (blankOf 40)) ≡ 398
   free-1 : length (free (tracked ten 1) (cut ten (tracked ten 1) (blankOf 1))) ≡ 8
   count-1 : freeCount (cut ten (tracked ten 1) (blankOf 1)) ≡ 8
-  fits-2016 : afterSave ten (blankOf 1) (text "A") (moduleOf 0 2016) .number ≡ 0
-  room-2017 : afterSave ten (blankOf 1) (text "A") (moduleOf 0 2017) .number ≡ 8
+  fits-2016 : afterSave ten (blankOf 1) (text "A") (moduleOf 0 2016) (roomFor 10) .number ≡ 0
+  room-2017 : afterSave ten (blankOf 1) (text "A") (moduleOf 0 2017) [] .number ≡ 8
   chain-begins : take 10 (free forty (cut ten forty (blankOf 40)))
       ≡ (0 /: 7 ∷ 0 /: 10 ∷ 0 /: 3 ∷ 0 /: 6 ∷ 0 /: 9 ∷ 0 /: 2 ∷ 0 /: 5 ∷ 0 /: 8 ∷ 1 /: 1 ∷ 1 /: 4 ∷ [])
   saved-sectors : map (fileChain forty disc40) (entries forty disc40) ≡ ((0 /: 7 ∷ 0 /: 10 ∷ []) ∷ [])
@@ -99,7 +104,7 @@ record Starred : Type 0 where
       }
 
 starred : Starred
-unfolding _>>=_ _>>_ refuse_if_ _orRefuse_ number valueOr ten geometry pointed placeOf sectorAt chunks reordered cut flat letter letters beforeDot afterDot withExtension stored discName spaced legalStored emptySlot freeSlot inUse slotAt slotsAt slotsOf met ends directory free slots entries openSlot find fileChain fileSectors goodEntry differ rule1 rule2 counted rule3 rule4 goodChain rule5 rule6 rule7 rule8 broken allowed sectorsFor firstBody laterBody laterBodies bodies guessed plain withSlot chained systemWrite entryBytes growth needed entryWrites saveWrites deleteWrites reading listing passing version blankFree blankSystem blankDisc listOn readOn saveBeforeOn saveOn deleteOn renameOn protectOn asked changed blank answerBy listAnswerBy readAnswerBy afterList afterRead afterSave afterDelete afterRename afterProtect afterBlank blankOf answers afterThursday forty disc40 _/:_
+unfolding _>>=_ _>>_ refuse_if_ _orRefuse_ number valueOr ten geometry pointed placeOf sectorAt chunks reordered cut flat letter letters beforeDot afterDot withExtension stored discName spaced legalStored emptySlot freeSlot inUse slotAt slotsAt slotsOf met ends directory free slots entries openSlot find fileChain fileSectors goodEntry differ rule1 rule2 counted rule3 rule4 goodChain rule5 rule6 rule7 rule8 broken allowed sectorsFor firstBody laterBody laterBodies bodies guessed plain withSlot chained systemWrite entryBytes growth needed entryWrites saveWrites deleteWrites reading listing passing version blankFree blankSystem blankDisc listOn readOn saveBeforeOn saveOn deleteOn renameOn protectOn asked listed recordOf writeList blank answerBy changeAnswerBy listAnswerBy readAnswerBy afterList afterRead afterSave afterDelete afterRename afterProtect afterBlank blankOf answers afterThursday forty disc40 _/:_
 starred =
     record {
       name-X = refl;

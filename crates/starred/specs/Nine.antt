@@ -13,8 +13,9 @@ use Rattle.format.specs.Layout.{freeCount, emptySlot, freeSlot, inUse, slotAt, 
 use Rattle.format.specs.Check.{goodEntry, differ, rule1, rule2, counted, rule3, rule4, goodChain, rule5, rule6, rule7, rule8, broken}
 use Rattle.format.specs.Modules.{allowed, sectorsFor, firstBody, laterBody, laterBodies, bodies}
 use Rattle.format.specs.Effects.{withSlot, chained, systemWrite, entryBytes, growth, needed, entryWrites, saveWrites, passing, version, blankFree, blankSystem, blankDisc}
-use Rattle.format.specs.Calls.{saveBeforeOn, saveOn, asked, changed, blank, answerBy, afterSave, afterBlank}
-use Rattle.starred.specs.Examples.{text, moduleOf}
+use Rattle.format.specs.Writes.{recordOf, writeList}
+use Rattle.format.specs.Calls.{saveBeforeOn, saveOn, asked, listed, blank, answerBy, changeAnswerBy, afterSave, afterBlank}
+use Rattle.starred.specs.Examples.{text, moduleOf, roomFor}
 
 -- "9 sectors a track"
 early : Format
@@ -62,11 +63,11 @@ record NineSectors : Type 0 where
   last-link : take 2 (sector blank40 (39 /: 9)) ≡ (0x00 ∷ 0x00 ∷ [])
   -- T = 1: 7 free, where 245 + 6 * 253 bytes fit
   count-1 : freeCount (cut early (tracked early 1) (blankOf 1)) ≡ 7
-  fits-1763 : afterSave early (blankOf 1) (text "A") (moduleOf 0 1763) .number ≡ 0
-  room-1764 : afterSave early (blankOf 1) (text "A") (moduleOf 0 1764) .number ≡ 8
+  fits-1763 : afterSave early (blankOf 1) (text "A") (moduleOf 0 1763) (roomFor 9) .number ≡ 0
+  room-1764 : afterSave early (blankOf 1) (text "A") (moduleOf 0 1764) [] .number ≡ 8
 
 nineSectors : NineSectors
-unfolding stated nine ten _>>=_ _>>_ refuse_if_ _orRefuse_ number valueOr geometry pointed placeOf sectorAt chunks reordered cut flat letter letters beforeDot afterDot withExtension stored discName spaced legalStored emptySlot freeSlot inUse slotAt slotsAt slotsOf met ends directory free slots entries openSlot find fileChain fileSectors goodEntry differ rule1 rule2 counted rule3 rule4 goodChain rule5 rule6 rule7 rule8 broken allowed sectorsFor firstBody laterBody laterBodies bodies withSlot chained systemWrite entryBytes growth needed entryWrites saveWrites passing version blankFree blankSystem blankDisc saveBeforeOn saveOn asked changed blank answerBy afterSave afterBlank early forty blankOf blank40 _/:_
+unfolding stated nine ten _>>=_ _>>_ refuse_if_ _orRefuse_ number valueOr geometry pointed placeOf sectorAt chunks reordered cut flat letter letters beforeDot afterDot withExtension stored discName spaced legalStored emptySlot freeSlot inUse slotAt slotsAt slotsOf met ends directory free slots entries openSlot find fileChain fileSectors goodEntry differ rule1 rule2 counted rule3 rule4 goodChain rule5 rule6 rule7 rule8 broken allowed sectorsFor firstBody laterBody laterBodies bodies withSlot chained systemWrite entryBytes growth needed entryWrites saveWrites passing version blankFree blankSystem blankDisc saveBeforeOn saveOn asked listed recordOf writeList blank answerBy changeAnswerBy afterSave afterBlank early forty blankOf blank40 _/:_
 nineSectors =
     record {
       as-nine = refl;

@@ -1,12 +1,13 @@
 // The calls as C sees them (include/tandos.h). Each is thin: its contract is the equation of document 01's call, and the work is
 // done below. A slice is a pointer and a length.
+use answers::Filled;
 use disc::Stated;
 use fsck::Checked;
-use listing::Listed;
 use reading::Reading;
 ghost use mathlib.Core.Path.{_≡_};
 ghost use Rattle.format.specs.Geometry.{stated};
-ghost use Rattle.format.specs.Calls.{answered, afterCheck, afterList, afterRead, afterSave, afterDelete, afterRename, afterProtect, afterBlank, viewNumber, viewPart};
+ghost use Rattle.format.specs.Calls.{answered, afterCheck, afterList, afterRead, afterSave, afterDelete, afterRename, afterProtect, afterReplay, afterBlank, viewNumber, viewPart};
+ghost use Rattle.answers.specs.Meaning.{changeAnswer};
 ghost use Rattle.listing.specs.Meaning.{listAnswer};
 ghost use Rattle.reading.specs.Answer.{readAnswer};
 ghost use Rattle.saving.specs.Meaning.{handed};
@@ -50,7 +51,7 @@ pub extern "C" fn tandos_list(
     sectors: u32,
     arrangement: u32,
     buffer: &mut [u8],
-) -> Listed
+) -> Filled
     ensures { λ r. ⌜ listAnswer r (now (buffer .exit)) ≡ afterList (stated sectors arrangement) (now (image .entry)) (now (buffer .entry)) ⌝ }
 {
     let kind = Stated {
@@ -87,15 +88,16 @@ pub extern "C" fn tandos_save(
     start: u16,
     transfer: u16,
     sheet: &[u8],
-) -> u32
-    ensures { λ r. ⌜ answered r (now (image .exit)) ≡ afterSave (stated sectors arrangement) (now (image .entry))
-        (now (name .entry)) (handed page start transfer (now (sheet .entry))) ⌝ }
+    writes: &mut [u8],
+) -> Filled
+    ensures { λ r. ⌜ changeAnswer r (now (image .exit)) (now (writes .exit)) ≡ afterSave (stated sectors arrangement) (now (image .entry))
+        (now (name .entry)) (handed page start transfer (now (sheet .entry))) (now (writes .entry)) ⌝ }
 {
     let kind = Stated {
         sectors,
         arrangement,
     };
-    saving::save(image, kind, name, page, start, transfer, sheet)
+    saving::save(image, kind, name, page, start, transfer, sheet, writes)
 }
 
 #[no_mangle]
@@ -104,14 +106,16 @@ pub extern "C" fn tandos_delete(
     sectors: u32,
     arrangement: u32,
     name: &[u8],
-) -> u32
-    ensures { λ r. ⌜ answered r (now (image .exit)) ≡ afterDelete (stated sectors arrangement) (now (image .entry)) (now (name .entry)) ⌝ }
+    writes: &mut [u8],
+) -> Filled
+    ensures { λ r. ⌜ changeAnswer r (now (image .exit)) (now (writes .exit)) ≡ afterDelete (stated sectors arrangement) (now (image .entry)) (now (name .entry))
+        (now (writes .entry)) ⌝ }
 {
     let kind = Stated {
         sectors,
         arrangement,
     };
-    commands::delete(image, kind, name)
+    commands::delete(image, kind, name, writes)
 }
 
 #[no_mangle]
@@ -121,14 +125,16 @@ pub extern "C" fn tandos_rename(
     arrangement: u32,
     old: &[u8],
     new: &[u8],
-) -> u32
-    ensures { λ r. ⌜ answered r (now (image .exit)) ≡ afterRename (stated sectors arrangement) (now (image .entry)) (now (old .entry)) (now (new .entry)) ⌝ }
+    writes: &mut [u8],
+) -> Filled
+    ensures { λ r. ⌜ changeAnswer r (now (image .exit)) (now (writes .exit)) ≡ afterRename (stated sectors arrangement) (now (image .entry)) (now (old .entry)) (now (new .entry))
+        (now (writes .entry)) ⌝ }
 {
     let kind = Stated {
         sectors,
         arrangement,
     };
-    commands::rename(image, kind, old, new)
+    commands::rename(image, kind, old, new, writes)
 }
 
 #[no_mangle]
@@ -138,14 +144,33 @@ pub extern "C" fn tandos_protect(
     arrangement: u32,
     name: &[u8],
     on: u32,
-) -> u32
-    ensures { λ r. ⌜ answered r (now (image .exit)) ≡ afterProtect (stated sectors arrangement) (now (image .entry)) (now (name .entry)) on ⌝ }
+    writes: &mut [u8],
+) -> Filled
+    ensures { λ r. ⌜ changeAnswer r (now (image .exit)) (now (writes .exit)) ≡ afterProtect (stated sectors arrangement) (now (image .entry)) (now (name .entry)) on
+        (now (writes .entry)) ⌝ }
 {
     let kind = Stated {
         sectors,
         arrangement,
     };
-    commands::protect(image, kind, name, on)
+    commands::protect(image, kind, name, on, writes)
+}
+
+// Writes the sectors of a list of writes.
+#[no_mangle]
+pub extern "C" fn tandos_replay(
+    image: &mut [u8],
+    sectors: u32,
+    arrangement: u32,
+    writes: &[u8],
+) -> u32
+    ensures { λ r. ⌜ answered r (now (image .exit)) ≡ afterReplay (stated sectors arrangement) (now (image .entry)) (now (writes .entry)) ⌝ }
+{
+    let kind = Stated {
+        sectors,
+        arrangement,
+    };
+    replaying::replay(image, kind, writes)
 }
 
 #[no_mangle]

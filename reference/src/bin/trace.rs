@@ -7,10 +7,11 @@
 //! trace totals SEED COUNT                runs of weekly totals
 //! ```
 //!
-//! In front of the first three may stand, in either order, the two numbers stated with
+//! In front of the first three may stand, in any order, the two numbers stated with
 //! every call: `--sectors N`, 10 as without it, or 9; and `--arrangement N`, 0
-//! plain as without it, or 1 moved. If N is given twice, the last counts. With
-//! other numbers, or 9 and 1, the images are plain, of nine sectors if `--sectors`
+//! plain as without it, or 1 moved; and `--replays N`: about one command in N is a
+//! replay, none with 0, as without it. If N is given twice, the last counts. With
+//! other numbers stated, or 9 and 1, the images are plain, of nine sectors if `--sectors`
 //! is 9 and else of ten, and every call is refused with 1.
 //!
 //! Fields are parted by one space. HEX is two digits a byte, upper case, and
@@ -25,16 +26,19 @@
 //!
 //! and goes on with up to twelve commands, arguments left of the `=` and
 //! answers right of it. A lent buffer is LENT bytes long and holds FILL in
-//! every byte before the call; BUFFER is all of it after the call, in HEX.
+//! every byte before the call; BUFFER is all of it after the call, in HEX. LIST
+//! is the list of writes: for save, delete, rename and protect the first LENGTH
+//! bytes of the buffer after the call, of which the rest holds FILL still.
 //!
 //! ```text
 //! check = NUMBER RULE
 //! list LENT FILL = NUMBER LENGTH BUFFER
 //! read NAME LENT FILL = NUMBER PAGE START END TRANSFER LENGTH BUFFER
-//! save NAME PAGE START TRANSFER SHEET = NUMBER
-//! delete NAME = NUMBER
-//! rename OLD NEW = NUMBER
-//! protect NAME ON = NUMBER
+//! save NAME PAGE START TRANSFER SHEET LENT FILL = NUMBER LENGTH LIST
+//! delete NAME LENT FILL = NUMBER LENGTH LIST
+//! rename OLD NEW LENT FILL = NUMBER LENGTH LIST
+//! protect NAME ON LENT FILL = NUMBER LENGTH LIST
+//! replay LIST = NUMBER
 //! blank NAME = NUMBER
 //! view TRACK SECTOR = NUMBER START BYTES
 //! ```
@@ -46,8 +50,8 @@
 //! the disc, not the place in the image, which the arrangement decides. Then the
 //! moment: the image's free count, and the parts directory and files of the
 //! free-sector sum by the book of the run. `moment none` stands while the image
-//! has not been sound since the run began. An accepted blank starts the book
-//! anew.
+//! has not been sound since the run began, or since its last accepted replay: the
+//! next sound image is a new start. An accepted blank starts the book anew too.
 //!
 //! ```text
 //! sector NUMBER HEX
@@ -78,19 +82,20 @@
 //!
 //! The last line of all is `end COUNT`.
 
-use reference::command::{Answer, Command};
-use reference::generate::{command, damaged_disc, sound_disc, totals_run, Random, TotalsRun};
-use reference::history::Book;
+use reference::command::{Answer, Buffer, Command};
+use reference::generate::{damaged_disc, sound_disc, totals_run, Random, Replays, TotalsRun};
+use reference::history::{Book, History};
 use reference::totals_book::TotalsBook;
 use std::io::{self, BufWriter, Write};
 use std::process::ExitCode;
 
 const USAGE: &str =
-    "usage: trace [--sectors N] [--arrangement N] [damaged|refused] SEED COUNT MAX_TRACKS
+    "usage: trace [--sectors N] [--arrangement N] [--replays N] [damaged|refused] SEED COUNT MAX_TRACKS
        trace totals SEED COUNT";
 /// Stated unless the options say otherwise.
 const SECTORS: u32 = 10;
 const ARRANGEMENT: u32 = 0;
+const NO_REPLAYS: usize = 0;
 const MOST_COMMANDS: usize = 12;
 const MOST_SHEETS: usize = 6;
 /// Records of five bytes: sheets of some 200 bytes, or some 2,000.
@@ -112,6 +117,8 @@ enum Request {
 struct Discs {
     sectors: u32,
     arrangement: u32,
+    /// One command in so many is a replay; 0 for none.
+    replays: usize,
     mode: Mode,
     seed: u64,
     count: usize,
@@ -152,11 +159,12 @@ fn parse(arguments: &[String]) -> Option<Request> {
 }
 
 fn parse_discs(mut arguments: &[String]) -> Option<Discs> {
-    let (mut sectors, mut arrangement) = (SECTORS, ARRANGEMENT);
+    let (mut sectors, mut arrangement, mut replays) = (SECTORS, ARRANGEMENT, NO_REPLAYS);
     while let [word, number, rest @ ..] = arguments {
         match word.as_str() {
             "--sectors" => sectors = number.parse().ok()?,
             "--arrangement" => arrangement = number.parse().ok()?,
+            "--replays" => replays = number.parse().ok()?,
             _ => break,
         }
         arguments = rest;
@@ -170,6 +178,7 @@ fn parse_discs(mut arguments: &[String]) -> Option<Discs> {
         [seed, count, max_tracks] => Some(Discs {
             sectors,
             arrangement,
+            replays,
             mode,
             seed: seed.parse().ok()?,
             count: count.parse().ok()?,
@@ -194,7 +203,7 @@ fn trace_discs(request: &Discs, out: &mut impl Write) -> io::Result<()> {
         writeln!(out, "image {sectors} {arrangement} {}", hex(&image))?;
         writeln!(out, "check {} {}", checked.number, checked.rule)?;
         if request.mode != Mode::Damaged {
-            run(&mut random, &mut image, sectors, arrangement, out)?;
+            run(&mut random, &mut image, request, out)?;
         }
     }
     writeln!(out, "end {}", request.count)
@@ -203,23 +212,22 @@ fn trace_discs(request: &Discs, out: &mut impl Write) -> io::Result<()> {
 fn run(
     random: &mut Random,
     image: &mut [u8],
-    sectors: u32,
-    arrangement: u32,
+    request: &Discs,
     out: &mut impl Write,
 ) -> io::Result<()> {
-    let mut book = Book::start(image, sectors, arrangement);
-    print_moment(image, book.as_ref(), out)?;
+    let (sectors, arrangement) = (request.sectors, request.arrangement);
+    let mut replays = Replays::one_in(request.replays);
+    let mut history = History::start(image, sectors, arrangement);
+    print_moment(image, history.book(), out)?;
     for _ in 0..random.between(1, MOST_COMMANDS) {
-        let command = command(random, image, sectors, arrangement);
+        let command = replays.command(random, image, sectors, arrangement);
         let before = by_number(image, sectors, arrangement);
         let answer = command.run(image, sectors, arrangement);
         writeln!(out, "{} = {}", arguments(&command), answers(&answer))?;
         print_changes(&before, &by_number(image, sectors, arrangement), out)?;
-        match &mut book {
-            Some(book) => book.record(&command, answer.accepted()),
-            None => book = Book::start(image, sectors, arrangement),
-        }
-        print_moment(image, book.as_ref(), out)?;
+        history.record(&command, answer.accepted(), image);
+        replays.heard(&answer);
+        print_moment(image, history.book(), out)?;
     }
     Ok(())
 }
@@ -253,27 +261,36 @@ fn print_changes(before: &[u8], after: &[u8], out: &mut impl Write) -> io::Resul
 fn arguments(command: &Command) -> String {
     match command {
         Command::Check => "check".to_string(),
-        Command::List { buffer } => format!("list {} {}", buffer.length, buffer.fill),
-        Command::Read { name, buffer } => {
-            format!("read {} {} {}", hex(name), buffer.length, buffer.fill)
-        }
+        Command::List { buffer } => format!("list {}", lent(buffer)),
+        Command::Read { name, buffer } => format!("read {} {}", hex(name), lent(buffer)),
         Command::Save {
             name,
             page,
             start,
             transfer,
             sheet,
+            writes,
         } => format!(
-            "save {} {page} {start} {transfer} {}",
+            "save {} {page} {start} {transfer} {} {}",
             hex(name),
-            hex(sheet)
+            hex(sheet),
+            lent(writes)
         ),
-        Command::Delete { name } => format!("delete {}", hex(name)),
-        Command::Rename { old, new } => format!("rename {} {}", hex(old), hex(new)),
-        Command::Protect { name, on } => format!("protect {} {on}", hex(name)),
+        Command::Delete { name, writes } => format!("delete {} {}", hex(name), lent(writes)),
+        Command::Rename { old, new, writes } => {
+            format!("rename {} {} {}", hex(old), hex(new), lent(writes))
+        }
+        Command::Protect { name, on, writes } => {
+            format!("protect {} {on} {}", hex(name), lent(writes))
+        }
+        Command::Replay { writes } => format!("replay {}", hex(writes)),
         Command::Blank { name } => format!("blank {}", hex(name)),
         Command::View { track, sector } => format!("view {track} {sector}"),
     }
+}
+
+fn lent(buffer: &Buffer) -> String {
+    format!("{} {}", buffer.length, buffer.fill)
 }
 
 fn answers(answer: &Answer) -> String {
@@ -282,6 +299,10 @@ fn answers(answer: &Answer) -> String {
         Answer::Checked(checked) => format!("{} {}", checked.number, checked.rule),
         Answer::Listed(listed, buffer) => {
             format!("{} {} {}", listed.number, listed.length, hex(buffer))
+        }
+        Answer::Wrote(filled, buffer) => {
+            let list = &buffer[..filled.length as usize];
+            format!("{} {} {}", filled.number, filled.length, hex(list))
         }
         Answer::Read(reading, buffer) => format!(
             "{} {} {} {} {} {} {}",

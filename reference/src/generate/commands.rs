@@ -2,16 +2,36 @@
 
 use super::files::{capacity, module_length};
 use super::{fresh_name, illegal_name, numbers_made, other_number, standing_names};
-use super::{Random, NINE, TEN};
+use super::{Random, Replays, NINE, TEN};
 use crate::command::{Buffer, Command};
-use crate::disc::{word, FREE_COUNT, MAX_SECTORS};
+use crate::directory;
+use crate::disc::{word, Disc, FREE_COUNT, MAX_SECTORS};
+use crate::module::sectors_taken;
+use crate::writes_book::list_length;
 
 /// The image that a command is made for, and the numbers that it was made with.
 #[derive(Clone, Copy)]
-struct Target<'a> {
-    image: &'a [u8],
-    sectors: u32,
-    arrangement: u32,
+pub struct Target<'a> {
+    pub image: &'a [u8],
+    pub sectors: u32,
+    pub arrangement: u32,
+}
+
+impl<'a> Target<'a> {
+    /// For the numbers stated, which may be no format.
+    pub fn new(image: &'a [u8], sectors: u32, arrangement: u32) -> Target<'a> {
+        let (sectors, arrangement) = numbers_made(sectors, arrangement);
+        Target {
+            image,
+            sectors,
+            arrangement,
+        }
+    }
+
+    /// None for an image of a wrong size.
+    pub fn disc(self) -> Option<Disc<'a>> {
+        Disc::open(self.image, self.sectors, self.arrangement).ok()
+    }
 }
 
 /// A list of commands made for a starting image. Each is chosen with the
@@ -22,35 +42,26 @@ pub fn command_list(
     sectors: u32,
     arrangement: u32,
     count: usize,
+    mut replays: Replays,
 ) -> Vec<Command> {
     let mut image = start.to_vec();
     (0..count)
         .map(|_| {
-            let command = command(random, &image, sectors, arrangement);
-            command.run(&mut image, sectors, arrangement);
+            let command = replays.command(random, &image, sectors, arrangement);
+            replays.heard(&command.run(&mut image, sectors, arrangement));
             command
         })
         .collect()
 }
 
-/// A command for an image of any length.
+/// A command for an image of any length, never a replay.
 pub fn command(random: &mut Random, image: &[u8], sectors: u32, arrangement: u32) -> Command {
-    let (sectors, arrangement) = numbers_made(sectors, arrangement);
-    let target = Target {
-        image,
-        sectors,
-        arrangement,
-    };
+    let target = Target::new(image, sectors, arrangement);
     match random.below(40) {
         0..=11 => save(random, target),
-        12..=17 => Command::Delete {
-            name: name(random, target),
-        },
+        12..=17 => delete(random, target),
         18..=22 => rename(random, target),
-        23..=26 => Command::Protect {
-            name: name(random, target),
-            on: random.pick(&[0, 0, 1, 0x80, 256, u32::MAX]),
-        },
+        23..=26 => protect(random, target),
         27..=32 => read(random, target),
         33..=35 => list(random, target),
         36 => Command::Check,
@@ -86,7 +97,23 @@ fn rename(random: &mut Random, target: Target<'_>) -> Command {
     } else {
         new_name(random, target)
     };
-    Command::Rename { old, new }
+    let writes = writes_buffer(random, 1);
+    Command::Rename { old, new, writes }
+}
+
+fn delete(random: &mut Random, target: Target<'_>) -> Command {
+    Command::Delete {
+        name: name(random, target),
+        writes: writes_buffer(random, 3),
+    }
+}
+
+fn protect(random: &mut Random, target: Target<'_>) -> Command {
+    Command::Protect {
+        name: name(random, target),
+        on: random.pick(&[0, 0, 1, 0x80, 256, u32::MAX]),
+        writes: writes_buffer(random, 1),
+    }
 }
 
 fn save(random: &mut Random, target: Target<'_>) -> Command {
@@ -99,12 +126,36 @@ fn save(random: &mut Random, target: Target<'_>) -> Command {
         _ => random.below(8) as u32,
     };
     let length = sheet_length(random, target.image, start);
+    let writes = 2 + sectors_taken(length) + usize::from(directory_is_full(target));
     Command::Save {
         name: new_name(random, target),
         page,
         start,
         transfer: random.draw() as u16,
         sheet: random.bytes(length),
+        writes: writes_buffer(random, writes),
+    }
+}
+
+fn directory_is_full(target: Target<'_>) -> bool {
+    target
+        .disc()
+        .map_or(false, |disc| directory::free_slot(disc).is_none())
+}
+
+/// For a list of so many writes, mostly long enough.
+fn writes_buffer(random: &mut Random, writes: usize) -> Buffer {
+    let exact = list_length(writes);
+    let length = match random.below(16) {
+        0 => 0,
+        1 => exact - 1,
+        2 => random.below(exact),
+        3..=6 => exact + random.between(1, 300),
+        _ => exact,
+    };
+    Buffer {
+        length,
+        fill: random.byte(),
     }
 }
 

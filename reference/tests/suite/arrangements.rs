@@ -3,17 +3,14 @@
 //! answer of the plain one and the moved form of its result.
 
 use crate::common::{
-    moved, moved_byte, moved_position, position, put, refused_by_every_call, rule, small, MOVED,
-    ONE_SLOT, PLAIN, TEN,
+    delete, moved, moved_byte, moved_position, position, protect, put, refused_by_every_call,
+    rename, rule, save, small, MOVED, ONE_SLOT, PLAIN, TEN,
 };
 use reference::command::{Answer, Command};
 use reference::generate::{
-    break_rule, command, damage, damaged_disc, flip_byte, sound_disc, Random,
+    break_rule, command, damage, damaged_disc, flip_byte, sound_disc, Random, Replays,
 };
-use reference::{
-    blank, check, delete, list, protect, read, rearranged, rename, save, view, view_number,
-    view_start, Checked,
-};
+use reference::{blank, check, list, read, rearranged, view, view_number, view_start, Checked};
 
 /// Numbers that state no arrangement; some are 0 or 1 in their low bytes.
 const NONE: [u32; 9] = [
@@ -314,7 +311,7 @@ fn side_by_side(random: &mut Random, start: &[u8], commands: usize) -> usize {
 #[test]
 fn the_claim_on_sound_discs() {
     let mut accepted = 0;
-    for seed in 0..400 {
+    for seed in 0..500 {
         let mut random = Random::new(seed);
         let start = sound_disc(&mut random, 5, TEN, PLAIN);
         accepted += side_by_side(&mut random, &start, 24);
@@ -446,7 +443,14 @@ fn commands_of_a_seed_are_the_same() {
         let make = |arrangement| -> Vec<Command> {
             let mut random = Random::new(seed);
             let start = sound_disc(&mut random, 4, TEN, arrangement);
-            reference::generate::command_list(&mut random, &start, TEN, arrangement, 10)
+            reference::generate::command_list(
+                &mut random,
+                &start,
+                TEN,
+                arrangement,
+                10,
+                Replays::none(),
+            )
         };
         assert_eq!(make(PLAIN), make(MOVED), "seed {seed}");
     }

@@ -1,7 +1,10 @@
 //! What each command writes, as whole images made by hand.
 
-use crate::common::{link, position, put, rule, small, DIRECTORY, ONE_SLOT, PLAIN, TEN, TWO_SLOT};
-use reference::{blank, delete, list, protect, read, rename, save, view, view_number, Reading};
+use crate::common::{
+    delete, link, position, protect, put, rename, rule, save, small, DIRECTORY, ONE_SLOT, PLAIN,
+    TEN, TWO_SLOT,
+};
+use reference::{blank, list, read, view, view_number, Reading};
 
 #[test]
 fn blank_of_one_track() {

@@ -3,8 +3,7 @@
 
 use reference::history::Book;
 use reference::{
-    blank, check, delete, list, protect, read, rename, save, view, view_number, view_start,
-    Checked, Listed, Reading,
+    blank, check, list, read, replay, view, view_number, view_start, Checked, Filled, Reading,
 };
 
 /// The numbers of sectors a track.
@@ -99,6 +98,102 @@ pub fn small() -> Vec<u8> {
     image
 }
 
+/// What lent buffers for lists hold in the calls below.
+const FILL: u8 = 0xB7;
+
+/// Where track t, sector s starts in an image with these numbers stated.
+pub fn start_of(sectors: u32, arrangement: u32, (track, sector): (usize, usize)) -> usize {
+    match (sectors, arrangement) {
+        (TEN, PLAIN) => position(track, sector),
+        (TEN, MOVED) => moved_position(track, sector),
+        (NINE, PLAIN) => 256 * (9 * track + sector - 1),
+        other => panic!("{other:?} is no format"),
+    }
+}
+
+/// The image that a good list of writes makes of an old one, read off by hand.
+pub fn rewritten(old: &[u8], sectors: u32, arrangement: u32, list: &[u8]) -> Vec<u8> {
+    let mut image = old.to_vec();
+    let (end, records) = list.split_last().expect("a kind 0");
+    assert_eq!((*end, records.len() % 259), (0, 0));
+    for record in records.chunks(259) {
+        assert_eq!(record[0], 3);
+        let address = (usize::from(record[1]), usize::from(record[2]));
+        put(
+            &mut image,
+            start_of(sectors, arrangement, address),
+            &record[3..],
+        );
+    }
+    image
+}
+
+/// The number of a call that is lent more than any list on the image needs. Its
+/// list must give the new image, a refusal must leave all, and the rest of the
+/// buffer stays.
+fn listed(
+    image: &mut [u8],
+    sectors: u32,
+    arrangement: u32,
+    call: impl FnOnce(&mut [u8], &mut [u8]) -> Filled,
+) -> u32 {
+    let old = image.to_vec();
+    let mut lent = vec![FILL; old.len() / 256 * 259 + 4];
+    let filled = call(image, &mut lent);
+    let (list, rest) = lent.split_at(filled.length as usize);
+    assert!(rest.iter().all(|&byte| byte == FILL));
+    if filled.number == 0 {
+        assert!(rewritten(&old, sectors, arrangement, list) == image);
+    } else {
+        assert!(list.is_empty() && image == old);
+    }
+    filled.number
+}
+
+#[allow(clippy::too_many_arguments)]
+pub fn save(
+    image: &mut [u8],
+    sectors: u32,
+    arrangement: u32,
+    name: &[u8],
+    page: u32,
+    start: u16,
+    transfer: u16,
+    sheet: &[u8],
+) -> u32 {
+    listed(image, sectors, arrangement, |image, lent| {
+        reference::save(
+            image,
+            sectors,
+            arrangement,
+            name,
+            page,
+            start,
+            transfer,
+            sheet,
+            lent,
+        )
+    })
+}
+
+pub fn delete(image: &mut [u8], sectors: u32, arrangement: u32, name: &[u8]) -> u32 {
+    listed(image, sectors, arrangement, |image, lent| {
+        reference::delete(image, sectors, arrangement, name, lent)
+    })
+}
+
+pub fn rename(image: &mut [u8], sectors: u32, arrangement: u32, old: &[u8], new: &[u8]) -> u32 {
+    listed(image, sectors, arrangement, |image, lent| {
+        reference::rename(image, sectors, arrangement, old, new, lent)
+    })
+}
+
+pub fn protect(image: &mut [u8], sectors: u32, arrangement: u32, name: &[u8], on: u32) -> u32 {
+    listed(image, sectors, arrangement, |image, lent| {
+        reference::protect(image, sectors, arrangement, name, on, lent)
+    })
+}
+
 /// The rule that the check reports for an image of a right size.
 pub fn rule(image: &[u8]) -> u32 {
     rule_of(image, TEN)
@@ -137,7 +232,7 @@ pub fn refused_by_every_call(image: &[u8], sectors: u32, arrangement: u32) {
 
 fn refused_with_a_buffer(image: &[u8], sectors: u32, arrangement: u32, lent: usize) {
     let mut buffer = vec![0xA5; lent];
-    let listed = Listed {
+    let listed = Filled {
         number: 1,
         length: 0,
     };
@@ -170,6 +265,9 @@ fn refused_by_writing_calls(image: &[u8], sectors: u32, arrangement: u32) {
         assert_eq!(rename(&mut lent, sectors, arrangement, b"ONE", name), 1);
         assert_eq!(protect(&mut lent, sectors, arrangement, name, 1), 1);
         assert_eq!(blank(&mut lent, sectors, arrangement, name), 1);
+    }
+    for list in [&b"\0"[..], b"", b"\x03", b"\0\0"] {
+        assert_eq!(replay(&mut lent, sectors, arrangement, list), 1);
     }
     assert_eq!(lent, image);
 }

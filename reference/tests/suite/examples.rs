@@ -1,7 +1,7 @@
 //! The examples on the boundaries, and the slips to guard against.
 
-use crate::common::{link, position, put, rule, small, ONE_SLOT, PLAIN, TEN};
-use reference::{blank, check, delete, list, read, rename, save, view, view_number};
+use crate::common::{delete, link, position, put, rename, rule, save, small, ONE_SLOT, PLAIN, TEN};
+use reference::{blank, check, list, read, view, view_number};
 
 const THU_ENTRY: [u8; 16] = [
     0x54, 0x48, 0x55, 0x20, 0x20, 0x20, 0x50, 0x43, 0x53, 0x02, 0x00, 0x07, 0x00, 0x0A, 0x00, 0x00,

@@ -1,11 +1,11 @@
 //! The largest discs, the longest chains, circles, and arbitrary bytes.
 
-use crate::common::{link, position, put, rule, rule_of, NINE, PLAIN, TEN};
+use crate::common::{delete, link, position, put, rule, rule_of, save, NINE, PLAIN, TEN};
 use reference::generate::{
-    break_rule, command, command_list, damaged_disc, flip_byte, sound_disc, Random,
+    break_rule, command, command_list, damaged_disc, flip_byte, sound_disc, Random, Replays,
 };
 use reference::history::Book;
-use reference::{blank, check, delete, list, read, save};
+use reference::{blank, check, list, read};
 
 /// Links sectors by number, each to the next, and ends the last one.
 fn link_numbers(image: &mut [u8], numbers: &[usize]) {
@@ -238,7 +238,7 @@ fn the_same_seed_gives_the_same_run() {
     let make = |seed, sectors| {
         let mut random = Random::new(seed);
         let image = sound_disc(&mut random, 5, sectors, PLAIN);
-        let commands = command_list(&mut random, &image, sectors, PLAIN, 20);
+        let commands = command_list(&mut random, &image, sectors, PLAIN, 20, Replays::none());
         (image, commands)
     };
     for sectors in [NINE, TEN] {

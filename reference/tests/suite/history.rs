@@ -2,8 +2,14 @@
 
 use crate::common::{moved, small, MOVED, ONE_SLOT, PLAIN, TEN, TWO_SLOT};
 use reference::blank;
-use reference::command::{Answer, Command};
-use reference::history::{moment_fault, Book, BookReading, Reference};
+use reference::command::{Buffer, Command};
+use reference::history::{moment_fault, Book, BookReading, History, Reference};
+
+/// Longer than any list of these tests.
+const LONG: Buffer = Buffer {
+    length: 10_000,
+    fill: 1,
+};
 
 fn save_command(name: &str, length: usize) -> Command {
     Command::Save {
@@ -12,22 +18,21 @@ fn save_command(name: &str, length: usize) -> Command {
         start: 0x1000,
         transfer: 0x1001,
         sheet: vec![0x42; length],
+        writes: LONG,
     }
 }
 
 fn delete_command(name: &str) -> Command {
     Command::Delete {
         name: name.as_bytes().to_vec(),
+        writes: LONG,
     }
 }
 
 /// Runs a command that must be accepted, in the image and in the book.
 fn accept(image: &mut [u8], book: &mut Book, command: &Command) {
-    assert_eq!(
-        command.run(image, TEN, PLAIN),
-        Answer::Number(0),
-        "{command:?}"
-    );
+    let answer = command.run(image, TEN, PLAIN);
+    assert!(answer.accepted(), "{command:?}");
     book.record(command, true);
     assert_eq!(moment_fault(&Reference, image, book), None, "{command:?}");
 }
@@ -124,6 +129,7 @@ fn refused_commands_change_nothing_in_the_book() {
     let protect = Command::Protect {
         name: b"ONE".to_vec(),
         on: 1,
+        writes: LONG,
     };
     book.record(&protect, true);
     book.record(&Command::Check, true);
@@ -204,10 +210,90 @@ fn a_sheet_of_other_bytes_is_found() {
     let mut image = small();
     let mut book = Book::start(&image, TEN, PLAIN).expect("sound");
     let mut other = save_command("NEW", 3);
-    assert_eq!(other.run(&mut image, TEN, PLAIN), Answer::Number(0));
+    assert!(other.run(&mut image, TEN, PLAIN).accepted());
     if let Command::Save { sheet, .. } = &mut other {
         sheet[2] = 0x43;
     }
     book.record(&other, true);
     assert!(moment_fault(&Reference, &image, &book).is_some());
+}
+
+/// A list that writes one sector of `small` or of another plain disc.
+fn one_write(track: u8, sector: u8, bytes: &[u8]) -> Command {
+    Command::Replay {
+        writes: [&[3, track, sector], bytes, &[0]].concat(),
+    }
+}
+
+#[test]
+fn after_a_replay_the_next_sound_image_is_the_start() {
+    let (mut image, book) = blank_start(3);
+    let mut history = History::start(&image, TEN, PLAIN);
+    assert_eq!(history.book(), Some(&book));
+    for file in 0..16 {
+        let command = save_command(&format!("F{file}"), 1);
+        assert!(command.run(&mut image, TEN, PLAIN).accepted());
+        history.record(&command, true, &image);
+    }
+    let before = history.clone();
+    let system = image[..256].to_vec();
+    // A refused replay changes nothing, whatever the image.
+    history.record(&one_write(3, 1, &system), false, &[]);
+    assert_eq!(history, before);
+    // The used count is spoilt: no book, also after other commands.
+    let mut spoilt = system.clone();
+    spoilt[0x16] = 99;
+    let spoil = one_write(0, 1, &spoilt);
+    assert!(spoil.run(&mut image, TEN, PLAIN).accepted());
+    history.record(&spoil, true, &image);
+    assert_eq!(history.book(), None);
+    history.record(&Command::Check, true, &image);
+    history.record(&save_command("G", 1), false, &image);
+    assert_eq!(history.book(), None);
+    // A replay makes it sound again, which is a start: all 16 files stand.
+    let heal = one_write(0, 1, &system);
+    assert!(heal.run(&mut image, TEN, PLAIN).accepted());
+    history.record(&heal, true, &image);
+    let started = Book::start(&image, TEN, PLAIN);
+    assert!(started.is_some() && history.book() == started.as_ref());
+}
+
+#[test]
+fn a_replay_that_leaves_the_image_sound_is_a_start() {
+    let (mut image, _) = blank_start(3);
+    let blank_image = image.clone();
+    let mut history = History::start(&image, TEN, PLAIN);
+    for file in 0..16 {
+        let command = save_command(&format!("F{file}"), 1);
+        assert!(command.run(&mut image, TEN, PLAIN).accepted());
+        history.record(&command, true, &image);
+    }
+    assert_eq!(history.book().map(Book::directory), Some(2));
+    // Every sector as it was on the blank disc: P is forgotten.
+    let mut writes = Vec::new();
+    for (number, sector) in blank_image.chunks(256).enumerate() {
+        writes.extend([3, (number / 10) as u8, (number % 10) as u8 + 1]);
+        writes.extend(sector);
+    }
+    writes.push(0);
+    let back = Command::Replay { writes };
+    assert!(back.run(&mut image, TEN, PLAIN).accepted());
+    assert!(image == blank_image);
+    history.record(&back, true, &image);
+    let book = history.book().expect("sound");
+    assert_eq!((book.directory(), book.free()), (1, 28));
+    assert_eq!(moment_fault(&Reference, &image, book), None);
+}
+
+#[test]
+fn an_accepted_blank_begins_the_history_of_an_unsound_image() {
+    let mut image = vec![0xFF; 2560];
+    let mut history = History::start(&image, TEN, PLAIN);
+    assert_eq!(history.book(), None);
+    let blanked = Command::Blank {
+        name: b"D".to_vec(),
+    };
+    assert!(blanked.run(&mut image, TEN, PLAIN).accepted());
+    history.record(&blanked, true, &image);
+    assert_eq!(history.book().map(Book::free), Some(8));
 }

@@ -1,7 +1,7 @@
 //! Bytes around what is lent stay, and what is only read stays as well.
 
-use crate::common::{small, ONE_SLOT, PLAIN, TEN};
-use reference::{blank, delete, list, protect, read, rename, save};
+use crate::common::{delete, protect, rename, save, small, ONE_SLOT, PLAIN, TEN};
+use reference::{blank, list, read};
 
 const GUARD: usize = 600;
 

@@ -1,11 +1,8 @@
 //! Every refusal of every command, every pair that can hold at once, and
 //! that a refusal leaves all lent memory as it was.
 
-use crate::common::{position, small, ONE_SLOT, PLAIN, TEN};
-use reference::{
-    blank, check, delete, list, protect, read, rename, save, view, view_number, Checked, Listed,
-    Reading,
-};
+use crate::common::{delete, position, protect, rename, save, small, ONE_SLOT, PLAIN, TEN};
+use reference::{blank, check, list, read, view, view_number, Checked, Filled, Reading};
 
 /// Wrong by one byte, and otherwise like `small`.
 fn wrong_size() -> Vec<u8> {
@@ -286,7 +283,7 @@ fn every_command_refuses_every_wrong_size() {
     for length in [0, 1, 255, 2_559, 2_561, 5_119, 204_801, 207_360, 256_000] {
         let image = vec![0; length];
         assert_eq!(check(&image, TEN, PLAIN), Checked { number: 1, rule: 0 });
-        let refused = Listed {
+        let refused = Filled {
             number: 1,
             length: 0,
         };

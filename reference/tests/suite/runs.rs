@@ -2,9 +2,10 @@
 //! every moment.
 
 use crate::common::FORMATS;
-use reference::command::Command;
-use reference::generate::{command_list, fresh_name, sound_disc, Random};
-use reference::history::{moment_fault, Book, Reference};
+use reference::command::{Buffer, Command};
+use reference::generate::{command_list, fresh_name, sound_disc, Random, Replays};
+use reference::history::{answer_fault, moment_fault, Book, History, Reference};
+use reference::writes_book::replay_fault;
 
 fn sound(image: &[u8], (sectors, arrangement): (u32, u32)) -> bool {
     let checked = reference::check(image, sectors, arrangement);
@@ -25,6 +26,8 @@ fn checked_run(start: &[u8], format: (u32, u32), commands: &[Command], label: u6
     for (at, command) in commands.iter().enumerate() {
         let before = image.clone();
         let answer = command.run(&mut image, sectors, arrangement);
+        let fault = answer_fault(&book, command, &answer, (&before, &image));
+        assert_eq!(fault, None, "seed {label}, command {at} {command:?}");
         book.record(command, answer.accepted());
         accepted += usize::from(answer.accepted());
         if !answer.accepted() {
@@ -47,7 +50,14 @@ fn many_short_runs() {
         for seed in 0..600 {
             let mut random = Random::new(seed);
             let start = sound_disc(&mut random, 5, sectors, arrangement);
-            let commands = command_list(&mut random, &start, sectors, arrangement, 30);
+            let commands = command_list(
+                &mut random,
+                &start,
+                sectors,
+                arrangement,
+                30,
+                Replays::none(),
+            );
             accepted += checked_run(&start, (sectors, arrangement), &commands, seed);
         }
         assert!(accepted > 5000, "only {accepted} commands were accepted");
@@ -59,7 +69,14 @@ fn few_long_runs() {
     for (seed, (sectors, arrangement)) in (1000..1024).zip(FORMATS.into_iter().cycle()) {
         let mut random = Random::new(seed);
         let start = sound_disc(&mut random, 3, sectors, arrangement);
-        let commands = command_list(&mut random, &start, sectors, arrangement, 600);
+        let commands = command_list(
+            &mut random,
+            &start,
+            sectors,
+            arrangement,
+            600,
+            Replays::none(),
+        );
         checked_run(&start, (sectors, arrangement), &commands, seed);
     }
 }
@@ -71,7 +88,14 @@ fn runs_on_full_size_discs() {
         let mut start = vec![0xEE; 80 * 256 * sectors as usize];
         let blanked = reference::blank(&mut start, sectors, arrangement, b"BIG");
         assert_eq!(blanked, 0);
-        let commands = command_list(&mut random, &start, sectors, arrangement, 60);
+        let commands = command_list(
+            &mut random,
+            &start,
+            sectors,
+            arrangement,
+            60,
+            Replays::none(),
+        );
         checked_run(&start, (sectors, arrangement), &commands, seed);
     }
 }
@@ -82,8 +106,12 @@ fn hovering_list(random: &mut Random, count: usize) -> Vec<Command> {
     (0..count)
         .map(|_| {
             let name = fresh_name(random);
+            let writes = Buffer {
+                length: 259 * 5 + 1,
+                fill: random.byte(),
+            };
             if random.one_in(3) {
-                Command::Delete { name }
+                Command::Delete { name, writes }
             } else {
                 Command::Save {
                     name,
@@ -91,6 +119,7 @@ fn hovering_list(random: &mut Random, count: usize) -> Vec<Command> {
                     start: 0x4000,
                     transfer: 0x4000,
                     sheet: vec![random.byte(); random.pick(&[1, 200, 245, 246])],
+                    writes,
                 }
             }
         })
@@ -115,4 +144,69 @@ fn runs_around_a_full_directory_sector() {
         most_directory = most_directory.max(book.directory());
     }
     assert!(most_directory >= 3, "{most_directory}");
+}
+
+/// How often things happened in runs with replays.
+#[derive(Debug, Default)]
+struct Seen {
+    replays: usize,
+    bad_lists: usize,
+    spoilt: usize,
+    healed: usize,
+}
+
+/// Runs a list with replays. What the book says is checked whenever there is
+/// one, which is whenever the image is sound.
+fn run_with_replays(start: &[u8], format: (u32, u32), commands: &[Command], seen: &mut Seen) {
+    let mut image = start.to_vec();
+    let mut history = History::start(start, format.0, format.1);
+    for command in commands {
+        let before = image.clone();
+        let answer = command.run(&mut image, format.0, format.1);
+        if let Command::Replay { writes } = command {
+            let fault = replay_fault(format, (&before, &image), writes, answer.number());
+            assert_eq!(fault, None, "{command:?}");
+            seen.replays += usize::from(answer.accepted());
+            seen.bad_lists += usize::from(answer.number() == 14);
+        }
+        let stood = history.book().is_some();
+        if let Some(book) = history.book() {
+            let fault = answer_fault(book, command, &answer, (&before, &image));
+            assert_eq!(fault, None, "{command:?}");
+        }
+        history.record(command, answer.accepted(), &image);
+        let fault = history
+            .book()
+            .and_then(|book| moment_fault(&Reference, &image, book));
+        assert_eq!(fault, None, "{command:?}");
+        let stands = history.book().is_some();
+        assert_eq!(stands, sound(&image, format), "{command:?}");
+        seen.spoilt += usize::from(stood && !stands);
+        seen.healed += usize::from(!stood && stands);
+    }
+}
+
+#[test]
+fn runs_with_replays() {
+    let mut seen = Seen::default();
+    for (seed, (sectors, arrangement)) in (4000..4300).zip(FORMATS.into_iter().cycle()) {
+        let mut random = Random::new(seed);
+        let start = sound_disc(&mut random, 4, sectors, arrangement);
+        let replays = Replays::one_in(4);
+        let commands = command_list(&mut random, &start, sectors, arrangement, 30, replays);
+        run_with_replays(&start, (sectors, arrangement), &commands, &mut seen);
+    }
+    let few = [seen.replays, seen.bad_lists, seen.spoilt, seen.healed];
+    assert!(few.iter().all(|&times| times > 100), "{seen:?}");
+}
+
+#[test]
+fn without_replays_there_are_none() {
+    for seed in 0..100 {
+        let mut random = Random::new(seed);
+        let start = sound_disc(&mut random, 3, 10, 0);
+        let commands = command_list(&mut random, &start, 10, 0, 30, Replays::none());
+        let replay = |command: &Command| matches!(command, Command::Replay { .. });
+        assert!(!commands.iter().any(replay));
+    }
 }

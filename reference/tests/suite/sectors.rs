@@ -3,16 +3,16 @@
 //! numbers, and commands on a nine-sector disc against those on a ten-sector
 //! one that holds the same.
 
-use crate::common::{put, refused_by_every_call, rule_of, small, MOVED, NINE, PLAIN, TEN};
-use reference::command::{Answer, Command};
+use crate::common::{
+    delete, protect, put, refused_by_every_call, rename, rule_of, save, small, MOVED, NINE, PLAIN,
+    TEN,
+};
+use reference::command::{Answer, Buffer, Command};
 use reference::generate::{
-    command, command_list, damaged_disc, sound_disc, sound_disc_of, wrong_length, Random,
+    command, command_list, damaged_disc, sound_disc, sound_disc_of, wrong_length, Random, Replays,
 };
 use reference::history::{moment_fault, Book, Reference};
-use reference::{
-    blank, check, delete, list, protect, read, rearranged, rename, save, view, view_number,
-    view_start, Checked,
-};
+use reference::{blank, check, list, read, rearranged, view, view_number, view_start, Checked};
 
 /// Numbers that state neither nine nor ten; some do in their low bytes.
 const NEITHER: [u32; 12] = [
@@ -726,8 +726,12 @@ fn the_sum_of_nine() {
         start: 0x1000,
         transfer: 0,
         sheet: vec![7; 499],
+        writes: Buffer {
+            length: 259 * 6 + 1,
+            fill: 0,
+        },
     };
-    assert_eq!(grow.run(&mut image, NINE, PLAIN), Answer::Number(0));
+    assert!(grow.run(&mut image, NINE, PLAIN).accepted());
     book.record(&grow, true);
     // 27 - 1 - 2 - 18.
     assert_eq!((book.directory(), book.file_sectors()), (2, 18));
@@ -803,13 +807,33 @@ fn lifted(nine: &[u8]) -> Vec<u8> {
     ten
 }
 
+/// A list of writes without the free pointer and count of 0/1, and for a delete
+/// without the link that gets the old pointer.
+fn comparable_writes(command: &Command, list: &mut [u8]) {
+    let deleted = matches!(command, Command::Delete { .. });
+    for (at, record) in list.chunks_exact_mut(259).enumerate() {
+        let sector = &mut record[1..];
+        if sector[..2] == [0, 1] {
+            sector[2 + 0x10..2 + 0x12].fill(0);
+            sector[2 + 0x14..2 + 0x16].fill(0);
+        } else if deleted && at == 1 {
+            sector[2..4].fill(0);
+        }
+    }
+}
+
 /// The answer without what must differ on the disc of ten: the free count in a
-/// list, it and the free pointer in a view of 0/1, and where a view lies.
+/// list, it and the free pointer in a view of 0/1 and in what is written, and
+/// where a view lies.
 fn comparable(command: &Command, answer: Answer) -> Answer {
     match (command, answer) {
         (Command::List { .. }, Answer::Listed(listed, mut lent)) if listed.number == 0 => {
             lent[10..12].fill(0);
             Answer::Listed(listed, lent)
+        }
+        (command, Answer::Wrote(filled, mut lent)) => {
+            comparable_writes(command, &mut lent[..filled.length as usize]);
+            Answer::Wrote(filled, lent)
         }
         (Command::View { track, sector }, Answer::Viewed { number, bytes, .. }) => {
             let mut bytes = bytes;
@@ -842,7 +866,7 @@ fn looks_at_the_difference(command: &Command, on_nine: &Answer, tracks: u32) -> 
 #[test]
 fn nine_in_step_with_ten() {
     let (mut accepted, mut tenth) = (0, 0);
-    for seed in 0..600 {
+    for seed in 0..750 {
         let mut random = Random::new(seed);
         let mut nine = sound_disc(&mut random, 5, NINE, PLAIN);
         let mut ten = lifted(&nine);
@@ -932,7 +956,7 @@ fn generated_views_reach_beyond_the_track() {
         for seed in 0..150 {
             let mut random = Random::new(seed);
             let start = sound_disc(&mut random, 4, sectors, PLAIN);
-            for command in command_list(&mut random, &start, sectors, PLAIN, 40) {
+            for command in command_list(&mut random, &start, sectors, PLAIN, 40, Replays::none()) {
                 if let Command::View { sector, .. } = command {
                     for (times, number) in met.iter_mut().zip([9, 10, 11]) {
                         *times += usize::from(sector == number);

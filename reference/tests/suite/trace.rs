@@ -52,26 +52,42 @@ fn parse(fields: &[&str]) -> Command {
             name: bytes(name),
             buffer: buffer(lent, fill),
         },
-        ["save", name, page, start, transfer, sheet] => Command::Save {
+        ["save", name, page, start, transfer, sheet, lent, fill] => Command::Save {
             name: bytes(name),
             page: number(page),
             start: number(start),
             transfer: number(transfer),
             sheet: bytes(sheet),
+            writes: buffer(lent, fill),
         },
-        ["delete", name] => Command::Delete { name: bytes(name) },
-        ["rename", old, new] => Command::Rename {
-            old: bytes(old),
-            new: bytes(new),
-        },
-        ["protect", name, on] => Command::Protect {
-            name: bytes(name),
-            on: number(on),
+        ["replay", list] => Command::Replay {
+            writes: bytes(list),
         },
         ["blank", name] => Command::Blank { name: bytes(name) },
         ["view", track, sector] => Command::View {
             track: number(track),
             sector: number(sector),
+        },
+        _ => parse_on_entry(fields),
+    }
+}
+
+/// The commands that write the entry of a standing file.
+fn parse_on_entry(fields: &[&str]) -> Command {
+    match *fields {
+        ["delete", name, lent, fill] => Command::Delete {
+            name: bytes(name),
+            writes: buffer(lent, fill),
+        },
+        ["rename", old, new, lent, fill] => Command::Rename {
+            old: bytes(old),
+            new: bytes(new),
+            writes: buffer(lent, fill),
+        },
+        ["protect", name, on, lent, fill] => Command::Protect {
+            name: bytes(name),
+            on: number(on),
+            writes: buffer(lent, fill),
         },
         _ => panic!("no command: {fields:?}"),
     }
@@ -86,6 +102,10 @@ fn same(answer: &Answer, fields: &[&str]) -> bool {
         Answer::Checked(checked) => numbers(2) == [checked.number, checked.rule],
         Answer::Listed(listed, lent) => {
             numbers(2) == [listed.number, listed.length] && bytes(fields[2]) == *lent
+        }
+        Answer::Wrote(filled, lent) => {
+            let list = &lent[..filled.length as usize];
+            numbers(2) == [filled.number, filled.length] && bytes(fields[2]) == *list
         }
         Answer::Read(reading, lent) => {
             let stands = [
@@ -197,6 +217,29 @@ fn runs_on_sound_discs() {
         assert_eq!(replayed.images, 120);
         assert!(replayed.commands > 400, "{}", replayed.commands);
     }
+}
+
+#[test]
+fn runs_with_replays() {
+    for (front, mode) in [
+        (&["--replays", "3"][..], &[][..]),
+        (&["--arrangement", "1", "--replays", "3"], &[]),
+        (&["--replays", "3", "--sectors", "9"], &[]),
+        (&["--replays", "2"], &["refused"]),
+    ] {
+        let arguments = [front, mode, &["6", "150", "6"]].concat();
+        let replayed = replay(&arguments);
+        assert_eq!(replayed.images, 150);
+        let lines = trace(&arguments);
+        let replays: Vec<&String> = lines.iter().filter(|l| l.starts_with("replay ")).collect();
+        for end in [" = 0", " = 14"] {
+            let times = replays.iter().filter(|line| line.ends_with(end)).count();
+            assert!(times > 40, "{front:?} {mode:?}{end}: {times}");
+        }
+    }
+    let without = trace(&["6", "150", "6"]);
+    assert!(!without.iter().any(|line| line.starts_with("replay ")));
+    assert!(trace(&["--replays", "0", "6", "150", "6"]) == without);
 }
 
 #[test]
@@ -312,7 +355,7 @@ fn without_places(arguments: &[&str]) -> Vec<String> {
 
 #[test]
 fn a_seed_gives_the_same_runs_in_either_arrangement() {
-    for mode in [&[][..], &["damaged"], &["refused"]] {
+    for mode in [&[][..], &["damaged"], &["refused"], &["--replays", "3"]] {
         let lines = |number| {
             let front = ["--arrangement", number];
             without_places(&[&front[..], mode, &["11", "60", "5"]].concat())
@@ -441,6 +484,9 @@ fn wrong_arguments_are_refused() {
         &["--sectors", "9", "2", "3"],
         &["--sectors", "x", "1", "2", "3"],
         &["--sectors", "-9", "1", "2", "3"],
+        &["--replays", "1", "2", "3"],
+        &["--replays", "x", "1", "2", "3"],
+        &["--replays", "3", "totals", "1", "2"],
         &["--sectors", "4294967296", "1", "2", "3"],
         &["1", "2", "3", "--sectors", "9"],
     ] {

@@ -1,8 +1,10 @@
 -- `listing::list` meets its contract.
 -- Assumes nothing.
 use borrow.Author.Needs.{needs}
-use mathlib.Core.Path.{sym, _∙_}
+use mathlib.Core.Path.{sym, ap, _∙_}
 use Rattle.disc.specs.Laws.{opened, geometry-wrong}
+use Rattle.answers.specs.declared.Filled.{Filled}
+use Rattle.listing.specs.Meaning.{listAnswer}
 use Rattle.listing.specs.Answer.{after-size, after-on}
 use Rattle.listing.proofs.list.Statement.{statement}
 use Rattle.listing.proofs.list.Tie as tie
@@ -19,10 +21,15 @@ enum-known-g c = search needs
 list-on-requires : tie.Need-list-on-requires
 list-on-requires c κs = opened _ (c .before .before .before .before .before .before .before .args .image .now) _ (sym (c .before .before .before .before .geometry-of .ensures) ∙ c .before .before .g .given .1) .on-image
 
+refused-requires : tie.Need-refused-requires
+refused-requires c κs = search needs
+
 returns : tie.Need-returns
 returns c =
-    let a = c .before .before .before .before .before .args in
-    after-size (a .image .now) (a .buffer .now) _ (geometry-wrong _ _ (sym (c .before .before .geometry-of .ensures) ∙ c .enum-told .given .1))
+    let at = c .before in
+    let a = at .before .before .before .before .before .args in
+    ap (λ (r : Filled). listAnswer r (a .buffer .now)) (c .refused .ensures)
+    ∙ after-size (a .image .now) (a .buffer .now) _ (geometry-wrong _ _ (sym (at .before .before .geometry-of .ensures) ∙ at .enum-told .given .1))
 
 same-length : tie.Need-same-length
 same-length c = search needs
@@ -38,6 +45,7 @@ list-spec =
     (tie.spec
     geometry-of-requires
     enum-told
+    refused-requires
     enum-known-g
     list-on-requires
     returns

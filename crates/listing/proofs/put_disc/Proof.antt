@@ -10,7 +10,7 @@ use Rattle.format.specs.Geometry.{Disc}
 use Rattle.format.specs.Layout.{discNamePlace, discNameOf, freeCount, usedCount}
 use Rattle.disc.specs.Meaning.{sectorsOf}
 use Rattle.listing.specs.Laws.{nine-at, two-bytes}
-use Rattle.listing.specs.Storing.{stored-as}
+use Rattle.records.specs.Storing.{stored-as}
 use Rattle.listing.proofs.put_disc.Statement.{statement}
 use Rattle.listing.proofs.put_disc.Tie as tie
 

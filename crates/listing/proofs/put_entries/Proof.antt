@@ -14,7 +14,7 @@ use Rattle.directory.specs.Laws.{slots-none, slots-are}
 use Rattle.directory.specs.declared.Step.{Step}
 use Rattle.listing.specs.Meaning.{recordsOf}
 use Rattle.listing.specs.Laws.{records-none, records-cons}
-use Rattle.listing.specs.Storing.{Storing, storing-all, storing-step, storing-room, storing-end}
+use Rattle.records.specs.Storing.{Storing, storing-all, storing-step, storing-room, storing-end}
 use Rattle.listing.proofs.put_entries.Statement.{statement}
 use Rattle.listing.proofs.put_entries.Tie as tie
 

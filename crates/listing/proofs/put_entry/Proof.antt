@@ -9,7 +9,7 @@ use Rattle.format.specs.Lists.{word}
 use Rattle.format.specs.Layout.{Slot, nameOf, lengthOf, attributeOf, slotAt}
 use Rattle.disc.specs.Meaning.{sectorsOf}
 use Rattle.listing.specs.Laws.{name-at, two-bytes}
-use Rattle.listing.specs.Storing.{stored-as}
+use Rattle.records.specs.Storing.{stored-as}
 use Rattle.listing.proofs.put_entry.Statement.{statement}
 use Rattle.listing.proofs.put_entry.Tie as tie
 

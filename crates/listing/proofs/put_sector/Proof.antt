@@ -11,7 +11,7 @@ use Rattle.disc.specs.Meaning.{sectorsOf}
 use Rattle.slots.specs.InOrder.{slotsFrom, slots-all, slots-end}
 use Rattle.listing.specs.Meaning.{recordsOf}
 use Rattle.listing.specs.Laws.{records-none, records-step}
-use Rattle.listing.specs.Storing.{Storing, storing-all, storing-step, storing-room, storing-end}
+use Rattle.records.specs.Storing.{Storing, storing-all, storing-step, storing-room, storing-end}
 use Rattle.listing.proofs.put_sector.Statement.{statement}
 use Rattle.listing.proofs.put_sector.Tie as tie
 

@@ -7,7 +7,7 @@ use lib.ListN.{length}
 use Rattle.format.specs.Layout.{Slot, slotAt}
 use Rattle.disc.specs.Meaning.{sectorsOf}
 use Rattle.listing.specs.Laws.{records-free, records-one, entry-long}
-use Rattle.listing.specs.Storing.{stored-as, stored-none}
+use Rattle.records.specs.Storing.{stored-as, stored-none}
 use Rattle.listing.proofs.put_slot.Statement.{statement}
 use Rattle.listing.proofs.put_slot.Tie as tie
 

@@ -13,7 +13,8 @@ use Rattle.disc.specs.Meaning.{geo, sectorsOf}
 use Rattle.names.specs.declared.Parsed.{Parsed}
 use Rattle.names.specs.Answer.{parsed-none, parsed-some, parsed-legal}
 use Rattle.directory.specs.Meaning.{foundOf, Within}
-use Rattle.lookup.specs.Laws.{entry-name, entry-unsound, entry-find, found-ok, found-none, refuses-is}
+use Rattle.lookup.specs.Laws.{entry-name, entry-unsound, entry-find, found-ok, found-none}
+use Rattle.answers.specs.Laws.{refuses-is}
 use Rattle.lookup.proofs.entry_on.Statement.{statement}
 use Rattle.lookup.proofs.entry_on.Tie as tie
 

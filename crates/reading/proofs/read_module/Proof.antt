@@ -8,7 +8,7 @@ use mathlib.Core.List.{List}
 use Prim.Native.Nat.{ℕ}
 use Rattle.format.specs.Refusals.{NOT-PLAIN, SHORT}
 use Rattle.format.specs.Modules.{plain}
-use Rattle.lookup.specs.Laws.{refuses-is}
+use Rattle.answers.specs.Laws.{refuses-is}
 use Rattle.reading.specs.Meaning.{headerOf, fileBodies, File}
 use Rattle.reading.specs.Answer.{readAnswer, doneWith}
 use Rattle.reading.specs.AnswerLaws.{refuses-answer, file-not-plain, file-short, file-read}

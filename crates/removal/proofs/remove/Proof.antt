@@ -94,12 +94,14 @@ returns-2 c =
     let d₂ : Disc = sectorsOf (a .g) (link .last .0) in
     let d₃ : Disc = sectorsOf (a .g) (c .before .before .put-system .last .0) in
     let last = found-sector (c .before .before .before .before .before .before .before .before .before .before .before .before .before .before .before .before .before .before .before .end .given .1) (entry .last-is ∙ start .pre .3 .ends-at) in
+    let wrote =
     three-writes G d s (start .pre .3) d₁ d₂ d₃
     (slot .ensures ∙ ap (λ (k : ℕ). set d (a .n .0) (withSlot (sector d (a .n .0)) (a .i) (k - 1) emptySlot)) (c .before .before .before .before .before .before .before .before .before .before .before .before .before .byte-of .ensures))
     (link .ensures ∙ ap₂ (λ (n : ℕ) (p : Next). storedAt d₁ n linkPlace (linkBytes G p)) last (sys .ensures .leads))
     (c .before .before .put-system .ensures
     ∙ ap₂ (λ (p : Next) (k : ℕ). written (systemWrite G d₂ p (sys .result .free + k) (sys .result .used - k) ∷ []) d₂) (entry .first-is) (entry .length-is)
-    ∙ ap₂ (λ (f u : ℕ). written (systemWrite G d₂ (firstOf G s) (f + lengthOf s) (u - lengthOf s) ∷ []) d₂) (sys .ensures .free-count) (sys .ensures .used-count))
+    ∙ ap₂ (λ (f u : ℕ). written (systemWrite G d₂ (firstOf G s) (f + lengthOf s) (u - lengthOf s) ∷ []) d₂) (sys .ensures .free-count) (sys .ensures .used-count)) in
+    record { sectors-are = wrote; last-is = last }
 
 pub remove-spec : {M : Type 1} → statement M
 remove-spec =

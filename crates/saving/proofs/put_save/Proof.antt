@@ -2,7 +2,6 @@
 -- Assumes nothing.
 use borrow.Author.Needs.{needs}
 use mathlib.Core.Path.{sym, ap, _∙_, subst}
-use Rattle.format.specs.Geometry.{Disc}
 use Rattle.disc.specs.Meaning.{sectorsOf}
 use Rattle.directory.specs.Meaning.{foundOf, Within}
 use Rattle.saving.proofs.put_save.Statement.{statement}
@@ -11,35 +10,39 @@ use Rattle.saving.proofs.put_save.Tie as tie
 enum-known-slot : tie.Need-enum-known-slot
 enum-known-slot c = search needs
 
-save-in-slot-requires : tie.Need-save-in-slot-requires
-save-in-slot-requires c κs =
-    let start = c .before .before .before .before .before .before in
+list-in-slot-requires : tie.Need-list-in-slot-requires
+list-in-slot-requires c κs =
+    let told = c .before .before .before in
+    let start = told .before .before .before .before .before in
     let a = start .args in
-    let d : Disc = sectorsOf (a .g) (a .image .now) in
     let finds = start .pre .1 in
-    let first-free = sym (finds .slot) ∙ ap (foundOf d) (c .before .before .slot .given .1) in
-    let within = subst (Within (a .g)) (c .before .before .slot .given .1) (finds .within) in
+    let first-free = sym (finds .slot) ∙ ap (foundOf (sectorsOf (a .g) (a .image .now))) (told .slot .given .1) in
+    let within = subst (Within (a .g)) (told .slot .given .1) (finds .within) in
     (start .pre .0, first-free, within .0, within .1)
 
 enum-told : tie.Need-enum-told
 enum-told c = search needs
 
-save-and-grow-requires : tie.Need-save-and-grow-requires
-save-and-grow-requires c κs =
-    let start = c .before .before .before .before .before in
+list-and-grow-requires : tie.Need-list-and-grow-requires
+list-and-grow-requires c κs =
+    let start = c .before .before .before .before .before .before .before in
     let a = start .args in
-    let d : Disc = sectorsOf (a .g) (a .image .now) in
-    let full = sym (start .pre .1 .slot) ∙ ap (foundOf d) (c .before .enum-told .given .1) in
-    (start .pre .0, full)
+    (start .pre .0, sym (start .pre .1 .slot) ∙ ap (foundOf (sectorsOf (a .g) (a .image .now))) (c .before .before .enum-told .given .1))
 
 same-length : tie.Need-same-length
 same-length c = search needs
 
+same-length-2 : tie.Need-same-length-2
+same-length-2 c = search needs
+
 returns : tie.Need-returns
 returns c = search needs
 
-same-length-2 : tie.Need-same-length-2
-same-length-2 c = search needs
+same-length-3 : tie.Need-same-length-3
+same-length-3 c = search needs
+
+same-length-4 : tie.Need-same-length-4
+same-length-4 c = search needs
 
 returns-2 : tie.Need-returns-2
 returns-2 c = search needs
@@ -49,10 +52,12 @@ put-save-spec =
     tie.close
     (tie.spec
     enum-known-slot
-    save-in-slot-requires
+    list-in-slot-requires
     enum-told
-    save-and-grow-requires
+    list-and-grow-requires
     same-length
-    returns
     same-length-2
+    returns
+    same-length-3
+    same-length-4
     returns-2)

@@ -1,0 +1,5 @@
+pub mod Meaning
+pub mod Bytes
+pub mod Links
+pub mod Taking
+pub mod Writes

@@ -1,0 +1,114 @@
+-- `writes::put_chain` meets its contract. The loop's invariant: storing the records of what is left of the walk gives what storing all of them gives at the
+-- start. The measure is how many steps are left.
+-- Assumes nothing.
+use borrow.Author.Needs.{needs}
+use native.Mathlib.Omega.{arith}
+use Prim.Native.Nat.{ℕ, _+_, _*_, _≤_}
+use mathlib.Core.Path.{refl, ap}
+use lib.ListN.{length}
+use Rattle.disc.specs.Meaning.{geo, sectorsOf, Reaches, led}
+use Rattle.disc.specs.Laws.{reached}
+use Rattle.records.specs.Storing.{Storing, storing-all, storing-step, storing-end, stored-as}
+use Rattle.format.specs.Writes.{recordOf}
+use Rattle.soundness.specs.CopiedOut.{standing}
+use Rattle.writes.specs.Laws.{walked, walked-ended, walked-none, walked-go}
+use Rattle.writes.proofs.put_chain.Statement.{statement}
+use Rattle.writes.proofs.put_chain.Tie as tie
+
+abbrev Inv-loop : tie.InvT-loop
+Inv-loop image g count buffer₀ at step₀ left₀ place₀ buffer step left place =
+    Storing buffer₀ at (walked (geo g) (sectorsOf g image) count (led step₀)) buffer place (walked (geo g) (sectorsOf g image) left (led step))
+    × Reaches g step × (left ≤ count) × (place + 259 * left ≤ length buffer₀)
+
+abbrev μ-loop : tie.MeasureT-loop
+μ-loop image g count buffer₀ at step₀ left₀ place₀ buffer step left place = left
+
+step-to-requires : tie.Need-step-to-requires Inv-loop μ-loop
+step-to-requires c κs = search needs
+
+loop-holds : tie.Need-loop-holds Inv-loop μ-loop
+loop-holds c = (storing-all _ _ refl, c .step-to .ensures .1, omega arith, omega arith)
+
+enum-known-step : tie.Need-enum-known-step Inv-loop μ-loop
+enum-known-step c = search needs
+
+same-length : tie.Need-same-length Inv-loop μ-loop
+same-length c = c .before .before .loop .inv .0 .long
+
+returns : tie.Need-returns Inv-loop μ-loop
+returns c =
+    let at-loop = c .before .before in
+    let start = at-loop .before .before .before .before in
+    let a = start .args in
+    let d = sectorsOf (a .g) (a .image .now) in
+    stored-as (ap (walked (geo (a .g)) d (a .count)) (at-loop .before .step-to .ensures .0))
+    (storing-end (at-loop .loop .inv .0) (walked-ended (geo (a .g)) d (at-loop .loop .left) (at-loop .loop .step) (c .match .keys2)))
+
+put-write-requires : tie.Need-put-write-requires Inv-loop μ-loop
+put-write-requires c κs =
+    let at-loop = c .before .before .before .before .before in
+    let inv = at-loop .loop .inv in (
+      at-loop .before .before .before .before .pre .0,
+      reached _ (c .before .before .step .given .1) (inv .1),
+      omega (arith, inv .3, inv .0 .long, c .before .before .before .before .loop-test .taken),
+    )
+
+step-from-requires : tie.Need-step-from-requires Inv-loop μ-loop
+step-from-requires c κs =
+    let at-loop = c .before .before .before .before .before .before .before .before in
+    (at-loop .before .before .before .before .pre .0, reached _ (c .before .before .before .before .before .step .given .1) (at-loop .loop .inv .1))
+
+sub-left : tie.Need-sub-left Inv-loop μ-loop
+sub-left c = search needs
+
+loop-less : tie.Need-loop-less Inv-loop μ-loop
+loop-less c = search needs
+
+loop-again : tie.Need-loop-again Inv-loop μ-loop
+loop-again c =
+    let wrote = c .before .before .before in
+    let told = wrote .before .before .before in
+    let tested = told .before .before in
+    let at-loop = tested .before in
+    let inv = at-loop .loop .inv in
+    let a = at-loop .before .before .before .before .args in
+    let n : ℕ = told .step .given .0 .0 .number .0 in
+    let G = geo (a .g) in
+    let d = sectorsOf (a .g) (a .image .now) in
+    let next = walked-go G d (at-loop .loop .left) n (tested .loop-test .taken) (ap led (told .step .given .1)) (c .step-from .ensures .0) in (
+      storing-step (recordOf G (standing d n)) _ (inv .0) next (wrote .put-write .ensures .0),
+      c .step-from .ensures .1,
+      omega arith,
+      omega (arith, inv .3, wrote .put-write .ensures .1, tested .loop-test .taken),
+    )
+
+same-length-2 : tie.Need-same-length-2 Inv-loop μ-loop
+same-length-2 c = c .before .loop .inv .0 .long
+
+returns-2 : tie.Need-returns-2 Inv-loop μ-loop
+returns-2 c =
+    let at-loop = c .before in
+    let start = at-loop .before .before .before .before in
+    let a = start .args in
+    let d = sectorsOf (a .g) (a .image .now) in
+    stored-as (ap (walked (geo (a .g)) d (a .count)) (at-loop .before .step-to .ensures .0))
+    (storing-end (at-loop .loop .inv .0) (walked-none (geo (a .g)) d (led (at-loop .loop .step)) (at-loop .loop .left) (omega arith)))
+
+pub put-chain-spec : {M : Type 1} → statement M
+put-chain-spec =
+    tie.close
+    (tie.spec
+    Inv-loop
+    μ-loop
+    step-to-requires
+    loop-holds
+    enum-known-step
+    same-length
+    returns
+    put-write-requires
+    step-from-requires
+    sub-left
+    loop-less
+    loop-again
+    same-length-2
+    returns-2)

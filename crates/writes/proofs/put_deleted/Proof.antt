@@ -1,0 +1,50 @@
+-- `writes::put_deleted` meets its contract.
+-- Assumes nothing.
+use borrow.Author.Needs.{needs}
+use mathlib.Core.Path.{refl}
+use mathlib.Core.List.{[], _∷_}
+use Rattle.disc.specs.Meaning.{geo, sectorsOf}
+use Rattle.records.specs.Storing.{storing-all}
+use Rattle.writes.specs.Laws.{copied-step, copied-end}
+use Rattle.writes.proofs.put_deleted.Statement.{statement}
+use Rattle.writes.proofs.put_deleted.Tie as tie
+
+put-numbered-requires : tie.Need-put-numbered-requires
+put-numbered-requires c κs = search needs
+
+put-numbered-requires-2 : tie.Need-put-numbered-requires-2
+put-numbered-requires-2 c κs = search needs
+
+put-numbered-requires-3 : tie.Need-put-numbered-requires-3
+put-numbered-requires-3 c κs = search needs
+
+end-list-requires : tie.Need-end-list-requires
+end-list-requires c κs = search needs
+
+same-length : tie.Need-same-length
+same-length c = search needs
+
+returns : tie.Need-returns
+returns c =
+    let third = c .before .before .before .before .before .before in
+    let second = third .before .before .before .before in
+    let first = second .before .before .before .before in
+    let a = first .before .before .before .before .args in
+    let G = geo (a .g) in
+    let d = sectorsOf (a .g) (a .image .now) in
+    let end = c .before .before .end-list .ensures in
+    let one = copied-step G d (a .home .0) (a .last .0 ∷ 0 ∷ []) (storing-all _ 0 refl) (first .put-numbered .ensures .0) in
+    let two = copied-step G d (a .last .0) (0 ∷ []) one (second .put-numbered2 .ensures .0) in
+    let three = copied-step G d 0 [] two (third .put-numbered3 .ensures .0) in
+    record { done = end .0; stored = copied-end G d three (end .1) }
+
+pub put-deleted-spec : {M : Type 1} → statement M
+put-deleted-spec =
+    tie.close
+    (tie.spec
+    put-numbered-requires
+    put-numbered-requires-2
+    put-numbered-requires-3
+    end-list-requires
+    same-length
+    returns)

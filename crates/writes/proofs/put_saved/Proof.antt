@@ -1,0 +1,43 @@
+-- `writes::put_saved` meets its contract.
+-- Assumes nothing.
+use borrow.Author.Needs.{needs}
+use mathlib.Core.List.{[], _∷_}
+use Rattle.disc.specs.Meaning.{geo, sectorsOf}
+use Rattle.writes.specs.Meaning.{frontOf}
+use Rattle.writes.specs.Laws.{copied-step, copied-end, front-then}
+use Rattle.writes.proofs.put_saved.Statement.{statement}
+use Rattle.writes.proofs.put_saved.Tie as tie
+
+put-front-requires : tie.Need-put-front-requires
+put-front-requires c κs = search needs
+
+put-numbered-requires : tie.Need-put-numbered-requires
+put-numbered-requires c κs = search needs
+
+end-list-requires : tie.Need-end-list-requires
+end-list-requires c κs = search needs
+
+same-length : tie.Need-same-length
+same-length c = search needs
+
+returns : tie.Need-returns
+returns c =
+    let last = c .before .before .before .before .before .before in
+    let front = last .before .before .before .before in
+    let a = front .before .before .before .before .args in
+    let G = geo (a .g) in
+    let d = sectorsOf (a .g) (a .image .now) in
+    let end = c .before .before .end-list .ensures in
+    let begun = front-then G d (frontOf (a .g) (a .image .now) (a .first) (a .count)) (a .home .0 ∷ []) (front .put-front .ensures .0) in
+    let one = copied-step G d (a .home .0) [] begun (last .put-numbered .ensures .0) in
+    record { done = end .0; stored = copied-end G d one (end .1) }
+
+pub put-saved-spec : {M : Type 1} → statement M
+put-saved-spec =
+    tie.close
+    (tie.spec
+    put-front-requires
+    put-numbered-requires
+    end-list-requires
+    same-length
+    returns)

@@ -1,0 +1,59 @@
+-- `writes::put_write` meets its contract.
+-- Assumes nothing.
+use borrow.Author.Needs.{needs}
+use Prim.Native.Nat.{ℕ, _+_}
+use mathlib.Core.Path.{refl, ap, _∙_}
+use Rattle.disc.specs.Meaning.{geo, sectorsOf}
+use Rattle.records.specs.Storing.{stored-as}
+use Rattle.writes.specs.Laws.{whole-sector, record-long, record-of}
+use Rattle.writes.proofs.put_write.Statement.{statement}
+use Rattle.writes.proofs.put_write.Tie as tie
+
+add-end : tie.Need-add-end
+add-end c = search needs
+
+place-of-requires : tie.Need-place-of-requires
+place-of-requires c κs = search needs
+
+slice-aggregate-put-record : tie.Need-slice-aggregate-put-record
+slice-aggregate-put-record c = search needs
+
+sub-put-record : tie.Need-sub-put-record
+sub-put-record c = search needs
+
+part-put-record-start : tie.Need-part-put-record-start
+part-put-record-start c = search needs
+
+part-put-record-end : tie.Need-part-put-record-end
+part-put-record-end c = search needs
+
+put-record-requires : tie.Need-put-record-requires
+put-record-requires c κs = search needs
+
+same-length : tie.Need-same-length
+same-length c = search needs
+
+returns : tie.Need-returns
+returns c =
+    let placed = c .before .before .before .before .before .before in
+    let start = placed .before .before .before .before in
+    let a = start .args in
+    let n : ℕ = a .s .number .0 in
+    let bytes = whole-sector (start .pre .0) (a .s) (start .pre .1) (a .s .start + 256) refl in
+    let is = record-of (geo (a .g)) (sectorsOf (a .g) (a .image .now)) n (placed .place-of .ensures .0) (placed .place-of .ensures .1) bytes in
+    let stored = stored-as is (c .before .before .put-record .ensures) in
+    (stored, stored .place ∙ ap (λ (k : ℕ). a .at + k) (record-long (start .pre .0) n (start .pre .1 .on)))
+
+pub put-write-spec : {M : Type 1} → statement M
+put-write-spec =
+    tie.close
+    (tie.spec
+    add-end
+    place-of-requires
+    slice-aggregate-put-record
+    sub-put-record
+    part-put-record-start
+    part-put-record-end
+    put-record-requires
+    same-length
+    returns)
