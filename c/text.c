@@ -20,7 +20,8 @@ static const struct refusal refusals[] = {
     [TANDOS_UNSOUND] = { "UNSOUND",
         "The disc is damaged, or its sectors a track or its arrangement are "
         "not the ones stated: check it with the others, and go on with those "
-        "that make it sound, or with a sound copy of it." },
+        "that make it sound; if none do, repair it where the check says 6, 7 "
+        "or 8, or go on with a sound copy of it." },
     [TANDOS_ABSENT] = { "ABSENT",
         "No file on the disc has this name: "
         "list the disc to see the names that stand." },

@@ -166,3 +166,19 @@ enum status parse_option_number(const struct arguments *arguments,
                           "a number of 0 to 65535 is wanted, not", text);
     return STATUS_DONE;
 }
+
+enum status for_each_operand(const struct arguments *arguments,
+                             enum status (*one)(const struct arguments *,
+                                                const char *operand))
+{
+    enum status worst = STATUS_DONE;
+    size_t i;
+
+    for (i = 0; i < arguments->operands; i++) {
+        enum status status = one(arguments, arguments->operand[i]);
+
+        if (status > worst)
+            worst = status;
+    }
+    return worst;
+}

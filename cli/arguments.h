@@ -46,4 +46,10 @@ enum status parse_option_number(const struct arguments *arguments,
                                 size_t option, uint32_t fallback,
                                 uint32_t *number);
 
+/* Does the operands one after the other, whatever becomes of each, and answers
+ * the worst status. */
+enum status for_each_operand(const struct arguments *arguments,
+                             enum status (*one)(const struct arguments *,
+                                                const char *operand));
+
 #endif

@@ -16,11 +16,13 @@ enum {
 
 /* Positions in a directory sector and in an entry. */
 enum {
+    ENTRIES = 2,
     FIRST_SLOT = 3,
     SLOT_SIZE = 16,
     ENTRY_LENGTH = 9,
     ENTRY_FIRST = 11,
-    ENTRY_LAST = 13
+    ENTRY_LAST = 13,
+    ENTRY_ATTRIBUTE = 15
 };
 
 /* No chain: the value of met_by for a sector that none has met. */
@@ -35,8 +37,7 @@ struct pair pair_of(const struct chains *chains, unsigned number)
     return pair;
 }
 
-/* Of a pair that is on the disc. */
-static unsigned number_of(const struct chains *chains, struct pair pair)
+unsigned number_of(const struct chains *chains, struct pair pair)
 {
     return pair.track * chains->sectors_per_track + pair.sector - 1;
 }
@@ -165,6 +166,9 @@ static void add_files_of(struct chains *chains, unsigned sector)
         if (is_free_slot(slot))
             continue;
         file->name = slot;
+        file->entry.sector = sector;
+        file->entry.slot = i + 1;
+        file->entry.attribute = slot[ENTRY_ATTRIBUTE];
         file->said_length = word_at(slot + ENTRY_LENGTH);
         file->first = stored_pair(slot + ENTRY_FIRST);
         file->said_last = stored_pair(slot + ENTRY_LAST);
@@ -216,6 +220,11 @@ void follow_chains(struct chains *chains, const struct image *image)
     follow_directory(chains);
     follow_files(chains);
     follow_free(chains);
+}
+
+unsigned said_entries(const struct sector *sector)
+{
+    return sector->bytes[ENTRIES];
 }
 
 bool is_lost(const struct sector *sector)

@@ -36,8 +36,16 @@ enum chain_end {
     CHAIN_RETURNS /* meets itself or the system sector, and is left there */
 };
 
+/* Where a file's entry stands, and its last byte. */
+struct entry {
+    unsigned sector; /* of the directory, by its number */
+    unsigned slot;   /* from 1 */
+    unsigned attribute;
+};
+
 struct chain {
     const uint8_t *name;   /* nine bytes of a file's entry, else NULL */
+    struct entry entry;    /* of a file */
     unsigned said_length;  /* by the entry, or by the free count */
     struct pair said_last; /* by the entry */
     unsigned length;       /* sectors met, each counted once */
@@ -79,8 +87,12 @@ struct chains {
  * is used. */
 void follow_chains(struct chains *chains, const struct image *image);
 
-/* The place of a sector by its number. */
+/* The place of a sector by its number, and the number of one on the disc. */
 struct pair pair_of(const struct chains *chains, unsigned number);
+unsigned number_of(const struct chains *chains, struct pair pair);
+
+/* The number of entries that a directory sector says it has. */
+unsigned said_entries(const struct sector *sector);
 
 bool is_lost(const struct sector *sector);
 bool is_met_again(const struct sector *sector);

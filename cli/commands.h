@@ -39,6 +39,7 @@ extern const struct command map_command;
 extern const struct command rearrange_command;
 extern const struct command totals_command;
 extern const struct command replay_command;
+extern const struct command repair_command;
 extern const struct command writes_command;
 
 #endif

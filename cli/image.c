@@ -36,7 +36,7 @@ enum status load_image_for_change(struct image *image, const char *path,
                                   enum kind kind, const char *command)
 {
     struct stat named;
-    int file;
+    enum status status;
 
     image->path = path;
     state_kind(image, kind);
@@ -45,10 +45,18 @@ enum status load_image_for_change(struct image *image, const char *path,
                           path);
     if (stat(path, &named) == 0 && !S_ISREG(named.st_mode))
         return say_problem(path, "cannot change: not a regular file");
-    file = open_locked(path);
-    if (file < 0)
+    image->locked = open_locked(path);
+    if (image->locked < 0)
         return say_failed(path, "cannot open for change");
-    return read_image(image, file);
+    status = read_image(image, image->locked);
+    if (status != STATUS_DONE)
+        unlock_image(image);
+    return status;
+}
+
+void unlock_image(const struct image *image)
+{
+    close(image->locked);
 }
 
 unsigned track_count(const struct image *image)

@@ -18,6 +18,7 @@
 struct image {
     const char *path;
     struct stat file; /* which file it was read from */
+    int locked;       /* that file, open, where it was read for a change */
     enum kind kind;   /* as the command line states it */
     /* Lent to a call by TANDOS_ON; the last two are those of the kind. */
     uint8_t bytes[IMAGE_BUFFER_SIZE];
@@ -30,9 +31,10 @@ struct image {
 enum status load_image(struct image *image, const char *path, enum kind kind);
 
 /* For the commands that change the image: its file is locked until the process
- * ends. */
+ * ends or, where one image after the other is changed, until it is unlocked. */
 enum status load_image_for_change(struct image *image, const char *path,
                                   enum kind kind, const char *command);
+void unlock_image(const struct image *image);
 
 /* The image is of a right size. */
 unsigned track_count(const struct image *image);

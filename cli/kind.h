@@ -3,10 +3,6 @@
 #ifndef KIND_H
 #define KIND_H
 
-#include <stdint.h>
-
-#include "status.h"
-
 struct image;
 
 enum kind {
@@ -21,17 +17,19 @@ enum kind {
 void state_kind(struct image *image, enum kind kind);
 
 /* Of an image that is refused or unsound as stated, another kind that it is
- * sound as: most likely somebody has stated the wrong one. KINDS where there is
- * none, and of an image that is sound as stated. */
+ * sound as. KINDS where there is none, and of an image that is sound as
+ * stated. */
+enum kind kind_sound_as(const struct image *image);
+
+/* That kind; or, where there is none, one as which a repair would make the disc
+ * sound, and the free chain is right or there are more files, while as stated
+ * the free chain or more is wrong: most likely somebody has stated the wrong
+ * one. KINDS as above. */
 enum kind kind_meant(const struct image *image);
 
 /* Where another kind was meant a sentence, with a space in front, that tells
  * how to state it; otherwise "". */
 const char *kind_hint(const struct image *image);
-
-/* A call on the image refused; the hint follows a refusal that may be due to
- * the kind stated. */
-enum status say_image_refused(const struct image *image, uint32_t number);
 
 /* What stands for the kind behind the number of tracks in a heading, at the end
  * of a list's row and of its JSON: "" for plain discs of ten sectors. */

@@ -3,6 +3,7 @@
 #include <unistd.h>
 
 #include "commands.h"
+#include "hint.h"
 #include "image.h"
 #include "kind.h"
 #include "message.h"
@@ -27,8 +28,7 @@ static struct disc_record disc_record(const struct image *image,
     disc.tracks = track_count(image);
     disc.free_count = word_at(records + 10);
     disc.used_count = word_at(records + 12);
-    disc.files = (unsigned)((length - TANDOS_LIST_SIZE(0)) /
-                            TANDOS_FILE_RECORD_SIZE);
+    disc.files = (unsigned)files_listed(length);
     disc.marks = marks_of(image);
     return disc;
 }

@@ -9,8 +9,8 @@
 static const struct command *const commands[] = {
     &blank_command,  &list_command,   &read_command,    &save_command,
     &delete_command, &rename_command, &protect_command, &replay_command,
-    &writes_command, &check_command,  &view_command,    &map_command,
-    &rearrange_command, &totals_command
+    &writes_command, &check_command,  &repair_command,  &view_command,
+    &map_command,    &rearrange_command, &totals_command
 };
 
 #define COMMANDS (sizeof commands / sizeof commands[0])

@@ -6,8 +6,8 @@
 #include <unistd.h>
 
 #include "commands.h"
+#include "hint.h"
 #include "image.h"
-#include "kind.h"
 #include "message.h"
 #include "output.h"
 
@@ -62,7 +62,7 @@ static enum status write_svg(const char *path, const struct image *image,
         status = write_output(path, image, (const uint8_t *)text, length);
     free(text);
     if (status == STATUS_DONE && rule != 0)
-        status = say_broken(image->path, rule, kind_hint(image));
+        status = say_broken(image->path, rule, image_hint(image));
     return status;
 }
 

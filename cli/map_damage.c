@@ -1,48 +1,35 @@
 /* The damage of an unsound disc, sector by sector, in words. */
+#include "damage.h"
 #include "map.h"
 
 /* How many places fit on a line. */
 #define PLACES_PER_LINE 12
 
-static void print_place(FILE *to, struct pair pair)
+/* The first piece has the heading above it. */
+static void print_piece(FILE *to, const char *heading, unsigned before,
+                        const char *text)
 {
-    fprintf(to, "%u/%u", pair.track, pair.sector);
-}
-
-static void print_meeting(FILE *to, const struct chains *chains,
-                          struct meeting meeting)
-{
-    char text[CHAIN_TEXT_SIZE];
-
-    fputs(chain_name(chains, meeting.chain, text), to);
-    if (meeting.chain != SYSTEM_CHAIN)
-        fprintf(to, " (sector %u)", meeting.position);
+    if (before == 0)
+        fprintf(to, "\n%s:\n", heading);
+    fprintf(to, "  %s\n", text);
 }
 
 static unsigned print_met_again(FILE *to, const struct chains *chains)
 {
+    char text[DAMAGE_TEXT_SIZE];
     unsigned found = 0, i;
 
     for (i = 0; i < chains->sectors; i++) {
-        const struct sector *sector = &chains->sector[i];
-
-        if (!is_met_again(sector))
+        if (!is_met_again(&chains->sector[i]))
             continue;
-        fputs(found++ == 0 ? "\nMet more than once:\n  " : "  ", to);
-        print_place(to, pair_of(chains, i));
-        fputs(": ", to);
-        print_meeting(to, chains, sector->first);
-        fputs(", ", to);
-        print_meeting(to, chains, sector->second);
-        if (sector->meetings > 2)
-            fprintf(to, ", and %u more", sector->meetings - 2);
-        putc('\n', to);
+        print_piece(to, MET_AGAIN, found++, met_again_text(chains, i, text));
     }
     return found;
 }
 
 static unsigned print_lost(FILE *to, const struct chains *chains)
 {
+    struct pair pair;
     unsigned found = 0, i;
 
     for (i = 0; i < chains->sectors; i++) {
@@ -50,61 +37,38 @@ static unsigned print_lost(FILE *to, const struct chains *chains)
             continue;
         if (found == 0)
             fputs("\nLost, met by no chain:", to);
-        fputs(found++ % PLACES_PER_LINE == 0 ? "\n  " : " ", to);
-        print_place(to, pair_of(chains, i));
+        pair = pair_of(chains, i);
+        fprintf(to, "%s%u/%u", found++ % PLACES_PER_LINE == 0 ? "\n  " : " ",
+                pair.track, pair.sector);
     }
     if (found > 0)
         putc('\n', to);
     return found;
 }
 
-/* A chain leaves the disc from its last sector, or does not even begin. */
 static unsigned print_links_off(FILE *to, const struct chains *chains)
 {
-    char text[CHAIN_TEXT_SIZE];
+    char text[DAMAGE_TEXT_SIZE];
     unsigned found = 0, i;
 
     for (i = 0; i < chains->count; i++) {
-        const struct chain *chain = &chains->chain[i];
-
-        if (chain->end != CHAIN_LEAVES)
+        if (chains->chain[i].end != CHAIN_LEAVES)
             continue;
-        fputs(found++ == 0 ? "\nLinked off the disc:\n  " : "  ", to);
-        if (chain->length > 0)
-            print_place(to, chain->last);
-        else
-            fputs("beginning", to);
-        fprintf(to, " of %s: to ", chain_name(chains, i, text));
-        print_place(to, chain->next);
-        putc('\n', to);
+        print_piece(to, LINKED_OFF, found++, linked_off_text(chains, i, text));
     }
     return found;
 }
 
-static bool ends_elsewhere(const struct chain *chain)
-{
-    return chain->name != NULL && chain->end == CHAIN_ENDS &&
-           (chain->last.track != chain->said_last.track ||
-            chain->last.sector != chain->said_last.sector);
-}
-
 static void print_wrong_ends(FILE *to, const struct chains *chains)
 {
-    char text[CHAIN_TEXT_SIZE];
+    char text[DAMAGE_TEXT_SIZE];
     unsigned found = 0, i;
 
     for (i = FIRST_FILE_CHAIN; i < chains->count; i++) {
-        const struct chain *chain = &chains->chain[i];
-
-        if (!ends_elsewhere(chain))
+        if (!ends_elsewhere(&chains->chain[i]))
             continue;
-        fputs(found++ == 0 ? "\nNot ended where the entry says:\n  " : "  ",
-              to);
-        fprintf(to, "%s: at ", chain_name(chains, i, text));
-        print_place(to, chain->last);
-        fputs(", the entry says ", to);
-        print_place(to, chain->said_last);
-        putc('\n', to);
+        print_piece(to, ENDED_ELSEWHERE, found++,
+                    ended_elsewhere_text(chains, i, text));
     }
 }
 

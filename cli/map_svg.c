@@ -1,6 +1,7 @@
 /* The map as a picture, SVG 1.1. */
 #include <string.h>
 
+#include "hint.h"
 #include "kind.h"
 #include "map.h"
 #include "text.h"
@@ -96,7 +97,7 @@ static void print_head(FILE *to, const struct chains *chains, uint32_t rule)
 /* Above the legend, where there is room for it. */
 static void print_hint(FILE *to, const struct chains *chains)
 {
-    const char *hint = kind_hint(chains->image);
+    const char *hint = image_hint(chains->image);
 
     if (*hint == '\0')
         return;

@@ -2,6 +2,7 @@
 #include <stdlib.h>
 #include <string.h>
 
+#include "hint.h"
 #include "kind.h"
 #include "map.h"
 #include "text.h"
@@ -141,7 +142,7 @@ void print_map(FILE *to, const struct chains *chains, uint32_t rule,
     fprintf(to, "Disc %s: %u track%s%s. %s%s\n\n",
             disc_name_text(chains->disc_name, text), chains->tracks,
             plural(chains->tracks), marks_of(chains->image)->heading,
-            tandos_rule_text(rule), kind_hint(chains->image));
+            tandos_rule_text(rule), image_hint(chains->image));
     print_tracks(to, chains, is_coloured);
     print_legend(to, chains, is_coloured);
     if (rule == 0)

@@ -29,6 +29,19 @@ enum status say_file_refused(const char *path, const char *name,
     return STATUS_REFUSED;
 }
 
+enum status say_beyond_repair(const char *path, uint32_t rule,
+                              const char *damage)
+{
+    fprintf(stderr, "tandos: %s: refused with %u, %s. %s %s. A repair cannot "
+            "mend this, and nothing was changed: see what is left with 'tandos "
+            "map' and 'tandos view', go on with the last good copy of the "
+            "disc, and replay the lists of writes made since on it.\n",
+            input_name(path), (unsigned)TANDOS_UNSOUND,
+            tandos_refusal_name(TANDOS_UNSOUND), tandos_rule_text(rule),
+            damage);
+    return STATUS_REFUSED;
+}
+
 enum status say_list_refused(const char *path, const char *fault,
                              const char *advice)
 {

@@ -20,6 +20,11 @@ enum status say_file_refused(const char *path, const char *name,
                              uint32_t number, const char *what,
                              const char *hint);
 
+/* A repair refused an image for the rule broken: the damage, and what can still
+ * be done. */
+enum status say_beyond_repair(const char *path, uint32_t rule,
+                              const char *damage);
+
 /* A list of writes is none, or none for the disc: what is wrong, and what to
  * do. */
 enum status say_list_refused(const char *path, const char *fault,

@@ -2,8 +2,8 @@
 #include <stdio.h>
 
 #include "commands.h"
+#include "hint.h"
 #include "image.h"
-#include "kind.h"
 #include "message.h"
 #include "output.h"
 

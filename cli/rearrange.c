@@ -2,6 +2,7 @@
 #include <string.h>
 
 #include "commands.h"
+#include "hint.h"
 #include "image.h"
 #include "kind.h"
 #include "message.h"
@@ -52,7 +53,7 @@ static enum status parse(const struct arguments *arguments, enum kind *to)
 /* Not kind_hint: stated as what it is, the disc is not to be rearranged. */
 static const char *already_hint(const struct image *image)
 {
-    switch (kind_meant(image)) {
+    switch (kind_sound_as(image)) {
     case TEN_PLAIN:
         return " In the plain arrangement the disc is sound: "
                "it is plain already.";
@@ -62,7 +63,7 @@ static const char *already_hint(const struct image *image)
     case NINE_PLAIN:
         return " With 9 sectors a track the disc is sound: "
                "it has one arrangement alone.";
-    default: return "";
+    default: return repair_hint(image);
     }
 }
 

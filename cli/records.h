@@ -3,6 +3,7 @@
 #define RECORDS_H
 
 #include <stdbool.h>
+#include <stddef.h>
 #include <stdint.h>
 
 struct file_record {
@@ -12,5 +13,8 @@ struct file_record {
 };
 
 struct file_record file_record(const uint8_t *record);
+
+/* The number of files in a list of this length. */
+size_t files_listed(size_t length);
 
 #endif

@@ -2,6 +2,7 @@
 #include <stdio.h>
 
 #include "commands.h"
+#include "hint.h"
 #include "image.h"
 #include "kind.h"
 #include "message.h"
@@ -9,8 +10,15 @@
 #include "text.h"
 #include "write_list.h"
 
-/* The library replays on any image. But one that is sound as another kind than
- * the one stated would have the sectors written to wrong places. */
+#define GO_BACK \
+    " The list is written all the same: if it was not made from this disc as " \
+    "it stood, go back to a copy of it."
+#define OR_REPAIR \
+    " Without a copy a repair would make the disc sound, but bring back no " \
+    "sector that the list has written over."
+
+/* The library replays on any image. But one that is of another kind than stated
+ * would have the sectors written to wrong places. */
 static uint32_t replay(struct image *image, const struct write_list *list)
 {
     if (tandos_check(TANDOS_ON(*image)).number == TANDOS_DONE &&
@@ -31,8 +39,7 @@ static enum status store(const struct image *image, unsigned count)
     if (rule == 0)
         return STATUS_DONE;
     return say_broken(image->path, rule,
-                      " The list is written all the same: if it was not made "
-                      "from this disc as it stood, go back to a copy of it.");
+                      is_repairable(image) ? GO_BACK OR_REPAIR : GO_BACK);
 }
 
 static enum status run(const struct arguments *arguments)
@@ -63,7 +70,7 @@ const struct command replay_command = {
     "FILE is a list that --writes wrote. On a copy of the disc as it was\n"
     "before that command, this does what the command did. The image need not\n"
     "be sound; if it is not so afterwards, it is written all the same and the\n"
-    "exit status is 1. One that is sound as another kind of disc than the one\n"
+    "exit status is 1. One that most likely is of another kind than the one\n"
     "stated is refused with 3.\n\n"
     KIND_HELP,
     2, 2, { { 0 } }, run

@@ -3,7 +3,7 @@
 #include <stdlib.h>
 #include <string.h>
 
-#include "kind.h"
+#include "hint.h"
 #include "message.h"
 #include "records.h"
 

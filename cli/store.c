@@ -2,7 +2,7 @@
 
 #include <stdio.h>
 
-#include "kind.h"
+#include "hint.h"
 #include "output.h"
 #include "replace.h"
 

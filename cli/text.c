@@ -1,8 +1,5 @@
 #include "text.h"
 
-#define NAME_PART 6
-#define EXTENSION_PART 3
-
 size_t unpadded_length(const uint8_t *bytes, size_t length)
 {
     while (length > 0 && bytes[length - 1] == ' ')

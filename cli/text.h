@@ -8,6 +8,10 @@
 
 #include "tandos.h"
 
+/* The parts of a file's name, as stored. */
+#define NAME_PART 6
+#define EXTENSION_PART 3
+
 /* Room for nine bytes, each as four characters, a dot and the end. */
 #define NAME_TEXT_SIZE (4 * TANDOS_NAME_SIZE + 2)
 

@@ -2,6 +2,7 @@
 #include <stdio.h>
 
 #include "commands.h"
+#include "hint.h"
 #include "image.h"
 #include "kind.h"
 #include "message.h"

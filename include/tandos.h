@@ -3,12 +3,12 @@
  *
  * The library lists, reads, saves, deletes, renames and protects the files of
  * a disc image, checks it, makes a blank disc and shows a sector, gives the
- * sectors that a command wrote and writes them to a copy of the disc, and adds
- * up the pieces of each worker from the sheets. The calls of the first part are
- * written in Rattle and proved: for any bytes handed in, each ends, stays
- * inside the memory lent to it, and answers and leaves exactly what is said
- * below. The few functions of the second part are written in C, tested, not
- * proved.
+ * sectors that a command wrote and writes them to a copy of the disc, repairs a
+ * disc whose card was pulled, and adds up the pieces of each worker from the
+ * sheets. The calls of the first part are written in Rattle and proved: for any
+ * bytes handed in, each ends, stays inside the memory lent to it, and answers
+ * and leaves exactly what is said below. The few functions of the second part
+ * are written in C, tested, not proved.
  *
  * THE DISC. An image is one side of a single density disc: T tracks (1 to 80),
  * numbered from 0, of S sectors, numbered 1 to S, of 256 bytes. Sector s of
@@ -20,8 +20,8 @@
  * Every call on an image is told which: its length can't tell (40 tracks of
  * nine sectors are as long as 36 of ten). An image stated wrongly is refused
  * with TANDOS_SIZE where its length is wrong, and is else as a rule not sound,
- * so that calls answer TANDOS_UNSOUND and change nothing; a check with the
- * other number then tells.
+ * so that calls but tandos_repair answer TANDOS_UNSOUND and change nothing; a
+ * check with the other number then tells.
  *
  * THE ARRANGEMENT. The tracks follow one another in the image; the sectors of
  * each track stand in one of two arrangements, and every call on an image is
@@ -38,17 +38,17 @@
  * moved image each call gives the answer that it gives on the plain one, and
  * leaves the moved form of what it leaves there. No byte of an image tells its
  * arrangement. A disc read in the wrong one is as a rule not sound, so that
- * calls answer TANDOS_UNSOUND and change nothing; a check in the other one
- * then tells. The caller states the same sectors and the same arrangement in
- * every call on an image.
+ * calls but tandos_repair answer TANDOS_UNSOUND and change nothing; a check in
+ * the other one then tells. The caller states the same sectors and the same
+ * arrangement in every call on an image.
  *
  * MEMORY. All memory is the caller's. The image is lent for the time of a call
  * and changed in place; calls keep no state, so different images may be used
  * from different threads at once.
  *
  *  - Nothing that a call may write (the image of save, delete, rename, protect,
- *    replay and blank; the writes of the first four; the buffer of list and
- *    read; the totals of add_sheet) may overlap anything else lent to that
+ *    replay, repair and blank; the writes of the first four; the buffer of list
+ *    and read; the totals of add_sheet) may overlap anything else lent to that
  *    call. The caller must see to that: no call can test it.
  *  - Each pointer is followed by the number of bytes lent there, or of totals.
  *    A pointer may be NULL only where that number is 0.
@@ -108,6 +108,28 @@
  * was before the command it leaves exactly what the command left. A buffer
  * that can't hold the list is refused with TANDOS_SHORT, the last refusal of
  * each; then the command is not done.
+ *
+ * A PULLED CARD. A card that is pulled may have only the first writes of a
+ * list, none, some or all, each of them whole. Its image is then read back,
+ * repaired and written again, and from then on it is the disc:
+ *
+ *    if (tandos_check(TANDOS_ON(card)).rule != 0)
+ *        number = tandos_repair(TANDOS_ON(card));
+ *
+ * The disc is sound again. Every file that the command doesn't name is as it
+ * was before, and the command is done whole or not at all:
+ *
+ *    save      done exactly if its last write was made
+ *    delete,   done exactly if their first write was made
+ *    rename,
+ *    protect
+ *
+ * List the disc to see which, and give a command that is not done once more.
+ *
+ * Such a card breaks rule 7, or none if no write or all were made. Where the
+ * check says 6 or 8, see first that sectors and arrangement are stated rightly:
+ * a repair believes them. On a sound disc that is stated wrongly rules 1 to 5
+ * may happen to hold; then the repair is done, and the files are lost.
  */
 #ifndef TANDOS_H
 #define TANDOS_H
@@ -202,7 +224,8 @@ enum tandos_refusal {
     TANDOS_SIZE = 1,       /* image length isn't 256 times the sectors stated
                               times 1 to 80, or there is no disc as stated */
     TANDOS_NAME = 2,       /* a file or disc name breaks its rule */
-    TANDOS_UNSOUND = 3,    /* the check finds a broken rule */
+    TANDOS_UNSOUND = 3,    /* the check finds a broken rule; of repair, one of
+                              the rules 1 to 5 */
     TANDOS_ABSENT = 4,     /* no such file */
     TANDOS_TAKEN = 5,      /* the new name stands already */
     TANDOS_PROTECTED = 6,  /* delete or rename of a protected file */
@@ -472,6 +495,26 @@ tandos_filled tandos_protect(uint8_t *image, size_t image_len,
 uint32_t tandos_replay(uint8_t *image, size_t image_len,
                        uint32_t sectors, uint32_t arrangement,
                        const uint8_t *writes, size_t writes_len);
+
+/*
+ * Repairs a disc whose card was pulled: makes its free chain anew, and sets
+ * both counts. Every sector that is neither 0/1 nor met by the directory or a
+ * file goes to the free chain, in the order of tandos_blank with all others
+ * left out. The free pointer is the first of them, or zeros where there is
+ * none; the link of each is the next one, of the last one zeros. The free count
+ * is their number, the used count the sum of the file lengths. No other byte
+ * changes: directory and files stay as they are, and of a free sector the bytes
+ * after its link.
+ *
+ * Leaves a sound disc. It is for a disc of which tandos_check says 6, 7 or 8,
+ * and may be called on a sound one too: then both counts stay, and the free
+ * chain may get another order. What is repaired once more stays as it is.
+ * Refusals:
+ *   TANDOS_SIZE      wrong image_len, sectors or arrangement.
+ *   TANDOS_UNSOUND   the check finds one of the rules 1 to 5 broken.
+ */
+uint32_t tandos_repair(uint8_t *image, size_t image_len,
+                       uint32_t sectors, uint32_t arrangement);
 
 /*
  * Makes the image a blank data disc of this name, whatever it was before: a

@@ -100,6 +100,12 @@ pub fn small_files(kind: Kind, tracks: usize, count: usize) -> Disc {
     disc
 }
 
+/// Small files on half of the sectors, and their directory.
+pub fn half_full(kind: Kind, tracks: usize) -> Disc {
+    let sectors = tracks * kind.sectors() as usize;
+    small_files(kind, tracks, sectors / 2)
+}
+
 /// Nearly full, with few files, the last of which is the sheet.
 pub fn few_large_files_and_sheet(kind: Kind, tracks: usize) -> Disc {
     let mut disc = blank(kind, tracks);
@@ -143,6 +149,16 @@ mod tests {
                 }
             }
             assert_eq!(few_large_files(kind, 40, LEFT_FREE).file, b"LARGE3");
+        }
+    }
+
+    #[test]
+    fn half_of_the_sectors_are_small_files() {
+        for kind in Kind::ALL {
+            let (disc, half) = (half_full(kind, 80), 40 * kind.sectors() as usize);
+            assert!(is_sound(&disc));
+            let directory = (half + 14) / 15;
+            assert_eq!(disc.free(), half - 1 - directory);
         }
     }
 

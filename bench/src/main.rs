@@ -11,23 +11,26 @@ mod sheets;
 mod table;
 
 use compare::kind::Kind;
+use discs::Disc;
 use operation::Operation;
 use sheets::Sheet;
 use std::process::ExitCode;
 use table::{Row, Table};
 
-const USAGE: &str = "usage: bench [--growth | --sheets]";
+const USAGE: &str = "usage: bench [--growth | --sheets | --repairs]";
 const ROUNDS: usize = 401;
 const GROWTH_ROUNDS: usize = 101;
+const REPAIRS: [Operation; 2] = [Operation::Repair, Operation::RepairOfCut];
 const GROWING: [Operation; 3] = [Operation::Check, Operation::SaveAndDelete, Operation::Read];
 
 fn main() -> ExitCode {
     let arguments: Vec<String> = std::env::args().skip(1).collect();
     let arguments: Vec<&str> = arguments.iter().map(String::as_str).collect();
     let (rows, sheets, rounds) = match arguments[..] {
-        [] => (calls(), all_sheets(), ROUNDS),
+        [] => ([calls(), repairs()].concat(), all_sheets(), ROUNDS),
         ["--growth"] => (growth(), Vec::new(), GROWTH_ROUNDS),
         ["--sheets"] => (Vec::new(), all_sheets(), ROUNDS),
+        ["--repairs"] => (repairs(), Vec::new(), ROUNDS),
         _ => {
             eprintln!("{USAGE}");
             return ExitCode::from(2);
@@ -60,6 +63,22 @@ fn calls() -> Vec<Row> {
         }));
     }
     rows
+}
+
+/// On discs with more or less to thread than those of every call.
+fn repairs() -> Vec<Row> {
+    let row = |operation: Operation, what: &str, disc: fn(Kind) -> Disc| Row {
+        label: format!("{}, 80 tracks, {what}", operation.name()),
+        operation,
+        discs: Kind::ALL.map(disc),
+    };
+    let rows = |operation| {
+        [
+            row(operation, "empty", |kind| discs::small_files(kind, 80, 0)),
+            row(operation, "half full", |kind| discs::half_full(kind, 80)),
+        ]
+    };
+    REPAIRS.into_iter().flat_map(rows).collect()
 }
 
 fn all_sheets() -> Vec<[Sheet; 3]> {

@@ -33,12 +33,16 @@ pub enum Operation {
     /// already.
     ReplaySmall,
     ReplayLarge,
+    Repair,
+    /// A save that lacks its last write, which a replay brings about, then the
+    /// repair.
+    RepairOfCut,
     Blank,
     ViewNumber,
 }
 
 impl Operation {
-    pub const ALL: [Operation; 13] = [
+    pub const ALL: [Operation; 15] = [
         Operation::Check,
         Operation::List,
         Operation::Read,
@@ -50,6 +54,8 @@ impl Operation {
         Operation::Protect,
         Operation::ReplaySmall,
         Operation::ReplayLarge,
+        Operation::Repair,
+        Operation::RepairOfCut,
         Operation::Blank,
         Operation::ViewNumber,
     ];
@@ -67,6 +73,8 @@ impl Operation {
             Operation::Protect => "protect on and off",
             Operation::ReplaySmall => "replay of a small save",
             Operation::ReplayLarge => "replay of a large save",
+            Operation::Repair => "repair",
+            Operation::RepairOfCut => "cut a save and repair",
             Operation::Blank => "blank",
             Operation::ViewNumber => "view number",
         }
@@ -127,9 +135,10 @@ impl Lent {
         lent
     }
 
-    /// A save is made by the second program and its list kept. Of a delete, made
-    /// on a copy, the same sectors are kept as they stand before it. A refused
-    /// one has a list of no bytes, which is refused too.
+    /// A save is made by the second program and its list kept, without the last
+    /// write if it is to be cut. Of a delete, made on a copy, the same sectors are
+    /// kept as they stand before it. A refused one has a list of no bytes, which is
+    /// refused too.
     fn make_list(&mut self) {
         match self.operation {
             Operation::ReplaySmall | Operation::ReplayLarge => {
@@ -142,7 +151,22 @@ impl Lent {
                 self.list = deleted.written();
                 self.take_back();
             }
+            Operation::RepairOfCut => {
+                let mut saved = self.clone();
+                saved.save(&SECOND);
+                self.list = saved.written();
+                self.leave_last_out();
+            }
             _ => {}
+        }
+    }
+
+    /// Takes the last record out of the list, if it has any.
+    fn leave_last_out(&mut self) {
+        let records = self.list.len() / RECORD;
+        if records > 0 {
+            let last = RECORD * (records - 1);
+            self.list.drain(last..last + RECORD);
         }
     }
 
@@ -189,6 +213,8 @@ impl Work for Lent {
             Operation::ReplaySmall | Operation::ReplayLarge => {
                 summed(times, || self.replay(program))
             }
+            Operation::Repair => summed(times, || self.repair(program)),
+            Operation::RepairOfCut => summed(times, || self.cut_and_repair(program)),
             Operation::Blank => summed(times, || self.blank(program)),
             Operation::ViewNumber => summed(times, || self.view_number(program)),
         }
@@ -251,6 +277,14 @@ impl Lent {
         (program.replay)(&mut self.image, sectors, arrangement, &self.list)
     }
 
+    fn repair(&mut self, program: &Program) -> u32 {
+        (program.repair)(&mut self.image, self.sectors, self.arrangement)
+    }
+
+    fn cut_and_repair(&mut self, program: &Program) -> u32 {
+        self.replay(program) + self.repair(program)
+    }
+
     fn delete_and_replay(&mut self, program: &Program) -> u32 {
         self.delete(program) + self.replay(program)
     }
@@ -294,6 +328,8 @@ mod tests {
             assert_eq!(records(Operation::ReplaySmall), 1 + 2);
             assert_eq!(records(Operation::ReplayLarge), 36 + 2);
             assert_eq!(records(Operation::DeleteAndReplay), 3);
+            // A save of eight sectors without its last write.
+            assert_eq!(records(Operation::RepairOfCut), 8 + 1);
             assert_eq!(records(Operation::SaveLarge), 0);
         }
     }

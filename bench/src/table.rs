@@ -7,6 +7,7 @@ use crate::sheets::Sheet;
 use compare::kind::Kind;
 
 /// An operation on the same disc of each kind, in the order of `Kind::ALL`.
+#[derive(Clone)]
 pub struct Row {
     pub label: String,
     pub operation: Operation,

@@ -1,5 +1,5 @@
-//! The ten calls and the order of their refusals, as document 01 and request e
-//! give it.
+//! The eleven calls and the order of their refusals, as document 01 and requests
+//! e and g give it.
 
 use crate::kind::Stated;
 use reference::command::Command;
@@ -10,6 +10,8 @@ pub const SIZE: u32 = 1;
 pub const SHORT: u32 = 10;
 /// The bytes are no list of writes to sectors on the disc.
 pub const BAD_LIST: u32 = 14;
+/// The disc breaks a rule: of a repair, one of those that it needs.
+pub const UNSOUND: u32 = 3;
 
 #[derive(Debug, Clone, Copy, PartialEq, Eq, PartialOrd, Ord)]
 pub enum Call {
@@ -23,10 +25,11 @@ pub enum Call {
     Blank,
     View,
     Replay,
+    Repair,
 }
 
 impl Call {
-    pub const ALL: [Call; 10] = [
+    pub const ALL: [Call; 11] = [
         Call::Check,
         Call::List,
         Call::Read,
@@ -37,6 +40,7 @@ impl Call {
         Call::Blank,
         Call::View,
         Call::Replay,
+        Call::Repair,
     ];
 
     pub fn of(command: &Command) -> Call {
@@ -51,6 +55,7 @@ impl Call {
             Command::Blank { .. } => Call::Blank,
             Command::View { .. } => Call::View,
             Command::Replay { .. } => Call::Replay,
+            Command::Repair => Call::Repair,
         }
     }
 
@@ -66,6 +71,7 @@ impl Call {
             Call::Blank => "blank",
             Call::View => "view",
             Call::Replay => "replay",
+            Call::Repair => "repair",
         }
     }
 
@@ -82,6 +88,7 @@ impl Call {
             Call::Blank => &[1, 2],
             Call::View => &[1, 11],
             Call::Replay => &[1, 14],
+            Call::Repair => &[1, 3],
         }
     }
 
@@ -136,6 +143,7 @@ mod tests {
             assert_eq!(Call::Protect.pairs(stated)[..7], protect);
             assert_eq!(Call::Protect.pairs(stated)[7..], [(3, 10), (4, 10)]);
             assert_eq!(Call::Replay.pairs(stated), [(1, 14)]);
+            assert_eq!(Call::Repair.pairs(stated), [(1, 3)]);
             assert!(Call::Save.pairs(stated).contains(&(8, 10)));
             assert!(Call::Delete.pairs(stated).contains(&(6, 10)));
             assert!(Call::Rename.pairs(stated).contains(&(5, 10)));
@@ -154,6 +162,7 @@ mod tests {
             let protect = [(1, 2), (1, 3), (1, 4), (1, 10)];
             assert_eq!(Call::Protect.pairs(stated), protect);
             assert_eq!(Call::Replay.pairs(stated), [(1, 14)]);
+            assert_eq!(Call::Repair.pairs(stated), [(1, 3)]);
         }
         assert_eq!(Call::List.answers(Stated::Kind(Kind::Nine)), [0, 1, 3, 10]);
     }

@@ -120,6 +120,7 @@ fn without_numbers(command: &Command) -> String {
         Command::Blank { name } => format!("blank {}", typed(name)),
         Command::View { track, sector } => format!("view {track}/{sector}"),
         Command::Replay { writes } => format!("replay of a {}", shortened("list", writes)),
+        Command::Repair => "repair".to_string(),
     };
     match command.lent_for_writes() {
         Some(writes) => format!("{call}, {} bytes lent for the list", writes.length),

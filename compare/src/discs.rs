@@ -9,6 +9,7 @@ const MOST_TRACKS: usize = 80;
 /// A save's refusal where the directory would have to grow and cannot.
 const NO_ROOM: u32 = 8;
 const FREE_POINTER: usize = 0x10;
+const DIRECTORY_POINTER: usize = 0x12;
 const FREE_COUNT: usize = 0x14;
 pub const SLOTS_PER_DIRECTORY_SECTOR: usize = 15;
 
@@ -105,14 +106,19 @@ pub fn nearly_full(random: &mut Random, kind: Kind) -> Vec<u8> {
 
 /// Files of one or two sectors, about as many as fill some directory sectors.
 pub fn small_files(random: &mut Random, kind: Kind) -> Vec<u8> {
-    let many = random.one_in(200);
-    let tracks = if many { 40 } else { random.between(2, 5) };
+    if random.one_in(200) {
+        return many_files(random, kind);
+    }
+    let (tracks, wanted) = (random.between(2, 5), random.pick(&[13, 14, 15, 16, 29, 30]));
+    save_small_files(random, kind, tracks, wanted)
+}
+
+pub fn many_files(random: &mut Random, kind: Kind) -> Vec<u8> {
+    save_small_files(random, kind, 40, 300)
+}
+
+fn save_small_files(random: &mut Random, kind: Kind, tracks: usize, wanted: usize) -> Vec<u8> {
     let mut image = blank(random, kind, tracks);
-    let wanted = if many {
-        300
-    } else {
-        random.pick(&[13, 14, 15, 16, 29, 30])
-    };
     for number in 0..wanted {
         let name = format!("F{number}");
         let sheet = vec![random.byte(); random.pick(&[1, 200, 245])];
@@ -182,6 +188,33 @@ pub fn place(image: &[u8], kind: Kind, [sector, track]: [u8; 2]) -> usize {
     let view = reference::view_start(image, kind.sectors(), kind.arrangement(), track, sector);
     assert!(view > 0, "{track}/{sector} is on the disc");
     view as usize - 2
+}
+
+/// The sectors of a sound disc's directory, track and sector, in order.
+pub fn directory_sectors(image: &[u8], kind: Kind) -> Vec<[u8; 2]> {
+    chain_of(image, kind, pointer(image, DIRECTORY_POINTER))
+}
+
+/// Those of its free chain.
+pub fn free_sectors(image: &[u8], kind: Kind) -> Vec<[u8; 2]> {
+    chain_of(image, kind, pointer(image, FREE_POINTER))
+}
+
+/// The track and sector of a pointer, which has its sector first.
+fn pointer(image: &[u8], at: usize) -> [u8; 2] {
+    [image[at + 1], image[at]]
+}
+
+/// From a track and sector to the end link, or to as many sectors as there are.
+pub fn chain_of(image: &[u8], kind: Kind, head: [u8; 2]) -> Vec<[u8; 2]> {
+    let mut next = head;
+    let mut sectors = Vec::new();
+    while next[1] != 0 && sectors.len() < image.len() / 256 {
+        sectors.push(next);
+        let at = place(image, kind, [next[1], next[0]]);
+        next = [image[at], image[at + 1]];
+    }
+    sectors
 }
 
 /// 0/4 is the directory sector of a blank disc.

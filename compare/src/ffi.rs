@@ -107,6 +107,7 @@ extern "C" {
         writes: *const u8,
         writes_len: usize,
     ) -> u32;
+    fn tandos_repair(image: *mut u8, image_len: usize, sectors: u32, arrangement: u32) -> u32;
     fn tandos_blank(
         image: *mut u8,
         image_len: usize,
@@ -308,6 +309,10 @@ pub fn replay(image: &mut [u8], sectors: u32, arrangement: u32, writes: &[u8]) -
             writes.len(),
         )
     }
+}
+
+pub fn repair(image: &mut [u8], sectors: u32, arrangement: u32) -> u32 {
+    unsafe { tandos_repair(image.as_mut_ptr(), image.len(), sectors, arrangement) }
 }
 
 pub fn blank(image: &mut [u8], sectors: u32, arrangement: u32, name: &[u8]) -> u32 {

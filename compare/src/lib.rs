@@ -6,6 +6,9 @@
 
 mod calls;
 pub mod count;
+mod cut_case;
+mod cut_tally;
+pub mod cuts;
 mod difference;
 mod discs;
 pub mod ffi;
@@ -18,6 +21,9 @@ pub mod load;
 mod met;
 pub mod options;
 mod pair;
+#[cfg(test)]
+mod planted_repair;
+mod repair_tally;
 pub mod run;
 mod several;
 mod sheet_case;

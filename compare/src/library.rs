@@ -157,9 +157,11 @@ struct Arguments {
 /// apart.
 fn texts(command: &Command) -> [&[u8]; 2] {
     match command {
-        Command::Check | Command::List { .. } | Command::View { .. } | Command::Replay { .. } => {
-            [&[], &[]]
-        }
+        Command::Check
+        | Command::List { .. }
+        | Command::View { .. }
+        | Command::Replay { .. }
+        | Command::Repair => [&[], &[]],
         Command::Read { name, .. }
         | Command::Delete { name, .. }
         | Command::Protect { name, .. }
@@ -203,6 +205,7 @@ fn call(
         ),
         Command::View { track, sector } => viewed(image, numbers, *track, *sector),
         Command::Blank { .. } => Answer::Number(ffi::blank(image, sectors, arrangement, name)),
+        Command::Repair => Answer::Number((writing.repair)(image, numbers)),
         changing => {
             let filled = (writing.change)(changing, image, numbers, texts, buffer);
             Answer::Wrote(filled, buffer.to_vec())

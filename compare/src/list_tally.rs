@@ -114,6 +114,8 @@ pub struct Said {
     pub history: bool,
     /// A replay has ended it, and no image was sound since.
     pub silenced: bool,
+    /// A card was pulled and not repaired since, so that there is none.
+    pub pulled: bool,
     /// How long the list is, if the command is accepted.
     pub list: Option<usize>,
     /// A save would make the directory grow.
@@ -127,8 +129,14 @@ pub struct Made<'a> {
     pub number: u32,
     pub tracks: usize,
     pub said: Said,
+    /// What the check says of the image before.
+    pub rule: u32,
+    /// The writes made before the card was pulled, and those of the list.
+    pub cut: Option<(usize, usize)>,
     /// The image is another than before.
     pub changed: bool,
+    /// The image says that it has no free sector.
+    pub none_free: bool,
     /// There is a history now.
     pub history: bool,
 }
@@ -185,7 +193,7 @@ impl ListTally {
         places.sort_unstable();
         places.dedup();
         self.mark(places.len() < records, Mark::Twice);
-        self.mark(!made.said.history, Mark::OnUnsound);
+        self.mark(!made.said.history && !made.said.pulled, Mark::OnUnsound);
         self.mark(made.history && made.said.history, Mark::AnewAtOnce);
         self.mark(!made.history && made.said.history, Mark::Silent);
     }
@@ -280,7 +288,10 @@ mod tests {
                 list: Some(260),
                 ..Said::default()
             },
+            rule: 0,
+            cut: None,
             changed: true,
+            none_free: false,
             history: true,
         }
     }

@@ -1,7 +1,8 @@
 //! Many commands on one image of each kind: what shows only after a long
 //! history, such as a free chain that has passed every sector in many orders.
 //! The lists of writes keep an older copy of each image up, as a card reader
-//! would. After each command one sheet more is added to a table of totals.
+//! would. Cards are pulled amid their lists and repaired. After each command one
+//! sheet more is added to a table of totals.
 
 mod card;
 mod sheets;
@@ -29,6 +30,12 @@ const WHOLE_MOMENT_EVERY: u64 = 10;
 /// Commands of any size, then of small files, so that the directory grows, then
 /// mostly deletes, since the disc is full by then.
 const PHASE: u64 = 200;
+/// Every second of these has cards pulled, in one command in so many, and repairs,
+/// one in so many; after a pulled card one in so many. The others leave the free
+/// chain the order that saves and deletes give it.
+const PULLED_IN: usize = 8;
+const REPAIRS_IN: usize = 40;
+const REPAIRS_OF_PULLED_IN: usize = 3;
 /// A blank disc ends the history before it, so few of those drawn are run.
 const BLANKS_LEFT_OUT: usize = 60;
 
@@ -88,6 +95,8 @@ struct Image {
     most_files: usize,
     most_directory: usize,
     full_moments: u64,
+    silent_moments: u64,
+    pulled: u64,
 }
 
 impl Image {
@@ -102,6 +111,8 @@ impl Image {
             most_files: 0,
             most_directory: 0,
             full_moments: 0,
+            silent_moments: 0,
+            pulled: 0,
         }
     }
 
@@ -114,7 +125,18 @@ impl Image {
         })
     }
 
+    fn has_pulls(&self) -> bool {
+        self.commands / PHASE % 2 == 0
+    }
+
     fn draw(&self, random: &mut Random) -> Command {
+        let repairs_in = match self.pair.is_pulled() {
+            true => REPAIRS_OF_PULLED_IN,
+            false => REPAIRS_IN,
+        };
+        if (self.has_pulls() || self.pair.is_pulled()) && random.one_in(repairs_in) {
+            return Command::Repair;
+        }
         let draw: Draw = match self.commands / PHASE % 3 {
             0 => any_command,
             1 => small_file_command,
@@ -131,10 +153,17 @@ impl Image {
 
     fn run(&mut self, random: &mut Random, command: &Command) -> Result<(), String> {
         let met = Met::by(self.pair.image(), self.kind.numbers());
-        let answer = self.pair.step(random, command)?;
+        let (answer, cut) = if self.has_pulls() && random.one_in(PULLED_IN) {
+            self.pair.cut(random, command)?
+        } else {
+            (self.pair.step(random, command)?, None)
+        };
         self.tally.call(command, &answer, met);
+        self.pulled += u64::from(cut.is_some());
         self.observe();
-        self.card.take(command, &answer, self.pair.image())?;
+        let made = cut.map(|(made, _)| made);
+        self.card
+            .take(command, (&answer, made), self.pair.image())?;
         let fault = if self.commands % WHOLE_MOMENT_EVERY == 0 {
             self.tally.moments += 1;
             self.pair.moment_fault()
@@ -149,6 +178,7 @@ impl Image {
         self.most_files = self.most_files.max(files);
         self.most_directory = self.most_directory.max(directory);
         self.full_moments += u64::from(discs::free_count(self.pair.image()) == 0);
+        self.silent_moments += u64::from(!self.pair.has_history());
     }
 }
 
@@ -193,7 +223,12 @@ impl fmt::Display for Image {
         writeln!(out, "moments without a free sector: {}", self.full_moments)?;
         writeln!(
             out,
-            "moments with each file read: {}; with the places of all sectors: all",
+            "cards pulled: {}; moments between such and a repair: {}",
+            self.pulled, self.silent_moments
+        )?;
+        writeln!(
+            out,
+            "moments with each file read: {}; with the places of all sectors: all others",
             self.tally.moments
         )?;
         write!(out, "{}", self.card)

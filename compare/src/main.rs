@@ -1,6 +1,7 @@
 //! Compares the library with the second program; the last line is
 //! 'N passed, M failed'.
 
+use compare::cuts::Cuts;
 use compare::load::Load;
 use compare::options::{Options, USAGE};
 use compare::run::Driver;
@@ -17,10 +18,34 @@ fn main() -> ExitCode {
     };
     // Known before the first call, should a call never come back.
     println!("seed {}", options.seed);
-    match options.load {
-        Some(commands) => load(options.seed, commands),
-        None => compare(options),
+    match (options.load, options.cuts) {
+        (Some(commands), _) => load(options.seed, commands),
+        (None, Some(count)) => cuts(options, count),
+        (None, None) => compare(options),
     }
+}
+
+/// The last line is 'cuts: N cuts, R repairs, M failed'.
+fn cuts(options: Options, count: u64) -> ExitCode {
+    let mut cuts = Cuts::new(options.seed);
+    let missing = match options.run {
+        Some(number) => {
+            cuts.run(number);
+            Vec::new()
+        }
+        None => {
+            cuts.run_until(count);
+            cuts.missing()
+        }
+    };
+    print!("{cuts}");
+    for name in &missing {
+        println!("FAILED: never occurred: {name}");
+    }
+    let failed = cuts.failed + missing.len() as u64;
+    let (made, repairs) = (cuts.cuts(), cuts.repairs());
+    println!("cuts: {made} cuts, {repairs} repairs, {failed} failed");
+    ExitCode::from(u8::from(failed > 0))
 }
 
 /// The last line is 'load: N commands, M failed'.

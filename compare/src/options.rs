@@ -1,6 +1,6 @@
 //! The command line.
 
-pub const USAGE: &str = "usage: compare [--seed S] [--calls N] [--run R] [--load N]";
+pub const USAGE: &str = "usage: compare [--seed S] [--calls N | --cuts N | --load N] [--run R]";
 
 const DEFAULT_SEED: u64 = 650_065;
 const DEFAULT_CALLS: u64 = 40_000;
@@ -14,6 +14,9 @@ pub struct Options {
     /// So many commands on one image of each kind, in place of the comparison's
     /// runs.
     pub load: Option<u64>,
+    /// So many cuts of lists of writes at least, in place of the comparison's
+    /// runs.
+    pub cuts: Option<u64>,
 }
 
 impl Options {
@@ -23,6 +26,7 @@ impl Options {
             calls: DEFAULT_CALLS,
             run: None,
             load: None,
+            cuts: None,
         };
         for pair in arguments.chunks(2) {
             let value: u64 = pair.get(1)?.parse().ok()?;
@@ -31,6 +35,7 @@ impl Options {
                 "--calls" => options.calls = value,
                 "--run" => options.run = Some(value),
                 "--load" => options.load = Some(value),
+                "--cuts" => options.cuts = Some(value),
                 _ => return None,
             }
         }
@@ -56,6 +61,8 @@ mod tests {
         assert_eq!(parse("--run 5").and_then(|options| options.run), Some(5));
         let load = parse("--seed 3 --load 9").expect("legal");
         assert_eq!((load.seed, load.load), (3, Some(9)));
+        let cuts = parse("--cuts 9 --run 4").expect("legal");
+        assert_eq!((cuts.cuts, cuts.run), (Some(9), Some(4)));
     }
 
     #[test]

@@ -7,6 +7,8 @@ mod totals;
 mod planted;
 #[cfg(test)]
 mod planted_lists;
+#[cfg(test)]
+mod planted_repairs;
 
 use crate::calls::{Call, SIZE};
 use crate::count::Counts;
@@ -15,7 +17,7 @@ use crate::discs;
 use crate::kind::{Kind, Numbers, Stated};
 use crate::list_case::Target;
 use crate::list_tally::Made;
-use crate::met::Met;
+use crate::met::{is_sound, Met};
 use crate::pair::Pair;
 use crate::several::Case;
 use crate::table::{self, AddSheet};
@@ -43,6 +45,16 @@ const ASIDE_IN: usize = 8;
 const REPLAYS_IN: usize = 3;
 /// Of the commands that the second program draws there, one in so many replays.
 const REPLAYS_OF_SECOND_IN: usize = 2;
+/// One run in so many has cards pulled and repairs, and of its commands with a
+/// list one in so many is cut.
+const CUTS_IN: usize = 3;
+const PULLED_IN: usize = 2;
+/// One command of such a run in so many is a repair, where the image is sound and
+/// where it is not. Of these one in so many is a blank disc instead, and as many
+/// are replays.
+const REPAIRS_OF_SOUND_IN: usize = 8;
+const REPAIRS_IN: usize = 3;
+const NEW_STARTS_IN: usize = 12;
 /// One call in so many is made on the other arrangement too.
 const TWIN_IN: usize = 3;
 
@@ -70,14 +82,67 @@ struct Run {
     numbers: Numbers,
     draw: Draw,
     with_replays: bool,
+    with_cuts: bool,
 }
 
 impl Run {
     fn next(&self, random: &mut Random, image: &[u8], replays: &mut Replays) -> Command {
-        if self.with_replays && random.one_in(REPLAYS_IN) {
+        if self.with_cuts && self.restores(random, image) {
+            restoring_command(random, image, self.kind)
+        } else if self.with_replays && random.one_in(REPLAYS_IN) {
             replay_command(random, image, self.kind, replays)
         } else {
             (self.draw)(random, image, self.kind)
+        }
+    }
+
+    fn restores(&self, random: &mut Random, image: &[u8]) -> bool {
+        random.one_in(match is_sound(image, self.kind) {
+            true => REPAIRS_OF_SOUND_IN,
+            false => REPAIRS_IN,
+        })
+    }
+}
+
+/// A command to be made and compared.
+#[derive(Clone, Copy)]
+struct Asked<'a> {
+    command: &'a Command,
+    /// The card is pulled amid its writes.
+    pulled: bool,
+    /// The answer, where it is known without either program.
+    expected: Option<u32>,
+}
+
+impl<'a> Asked<'a> {
+    fn whole(command: &'a Command) -> Asked<'a> {
+        Asked {
+            command,
+            pulled: false,
+            expected: None,
+        }
+    }
+
+    /// The answer, and the cut if there was one.
+    fn make(
+        self,
+        random: &mut Random,
+        pair: &mut Pair,
+    ) -> Result<(Answer, Option<(usize, usize)>), String> {
+        if self.pulled {
+            pair.cut(random, self.command)
+        } else {
+            let answer = pair.step(random, self.command)?;
+            Ok((answer, None))
+        }
+    }
+
+    fn describe(self, numbers: Numbers) -> String {
+        let call = describe(self.command, numbers);
+        if self.pulled {
+            format!("{call}, the card pulled")
+        } else {
+            call
         }
     }
 }
@@ -110,8 +175,7 @@ impl Driver {
 
     /// A run depends on the seed and its number alone.
     pub fn run(&mut self, number: u64) {
-        let mixed = Random::new(self.seed ^ number.wrapping_mul(0xD1B5_4A32_D192_ED03)).draw();
-        let random = &mut Random::new(mixed);
+        let random = &mut random_of(self.seed, number);
         if number == 0 {
             return self.every_worker(random, number);
         }
@@ -146,6 +210,7 @@ impl Driver {
             numbers,
             draw,
             with_replays: random.one_in(REPLAYS_IN),
+            with_cuts: random.one_in(CUTS_IN),
         };
         self.list(random, run);
     }
@@ -164,7 +229,11 @@ impl Driver {
             if random.one_in(ASIDE_IN) {
                 self.aside(random, &pair, &next, place);
             }
-            match self.step(random, &mut pair, &next, None, place) {
+            let asked = Asked {
+                pulled: run.with_cuts && random.one_in(PULLED_IN),
+                ..Asked::whole(&next)
+            };
+            match self.step(random, &mut pair, asked, place) {
                 Some(answer) => replays.heard(&answer),
                 None => break,
             }
@@ -179,7 +248,8 @@ impl Driver {
         let stated = of_run.another(random);
         let numbers = stated.numbers(random);
         let mut copy = Pair::new(random, pair.image().to_vec(), numbers, self.writing);
-        if self.step(random, &mut copy, command, None, place).is_some() {
+        let asked = Asked::whole(command);
+        if self.step(random, &mut copy, asked, place).is_some() {
             self.counts.of(of_run).aside(stated);
         }
     }
@@ -191,8 +261,11 @@ impl Driver {
             let expected = case.expected_number();
             let mut pair = Pair::new(random, case.image, case.numbers, self.writing);
             let place = Place { run, command };
-            let answer = self.step(random, &mut pair, &case.command, Some(expected), place);
-            if answer.is_some() {
+            let asked = Asked {
+                expected: Some(expected),
+                ..Asked::whole(&case.command)
+            };
+            if self.step(random, &mut pair, asked, place).is_some() {
                 self.counts
                     .of(case.numbers.stated())
                     .refusals(Call::of(&case.command), &case.refusals);
@@ -205,13 +278,12 @@ impl Driver {
         &mut self,
         random: &mut Random,
         pair: &mut Pair,
-        command: &Command,
-        expected: Option<u32>,
+        asked: Asked<'_>,
         place: Place,
     ) -> Option<Answer> {
-        let call = describe(command, pair.numbers());
+        let call = asked.describe(pair.numbers());
         self.announce(&call, place);
-        match self.compare(random, pair, command, expected) {
+        match self.compare(random, pair, asked) {
             Ok(answer) => {
                 self.counts.passed += 1;
                 Some(answer)
@@ -238,40 +310,55 @@ impl Driver {
         &mut self,
         random: &mut Random,
         pair: &mut Pair,
-        command: &Command,
-        expected: Option<u32>,
+        asked: Asked<'_>,
     ) -> Result<Answer, String> {
-        let twin = some_twin(random, pair);
-        let met = Met::by(pair.image(), pair.numbers());
-        let said = pair.said(command);
-        let answer = pair.step(random, command)?;
-        let (call, number) = (Call::of(command), answer.number());
+        let twin = some_twin(random, pair, asked);
+        let answer = self.count(random, pair, asked)?;
+        let number = answer.number();
         let stated = pair.numbers().stated();
-        let tally = self.counts.of(stated);
-        tally.call(command, &answer, met);
-        tally.lists(Made {
-            command,
-            number,
-            tracks: met.tracks,
-            said,
-            changed: pair.changed(),
-            history: pair.has_history(),
-        });
-        match first_to_apply(stated, expected) {
+        match first_to_apply(stated, asked.expected) {
             Some(first) if first != number => {
                 return Err(wrongly_first(number, first));
             }
             _ => {}
         }
+        let tally = self.counts.of(stated);
         if let Some(twin) = twin {
-            tally.twin(call, number);
+            tally.twin(Call::of(asked.command), number);
             let (writing, image) = (pair.writing(), pair.image());
-            if let Some(text) = twin.fault(random, writing, command, answer.clone(), image) {
+            if let Some(text) = twin.fault(random, writing, asked.command, answer.clone(), image) {
                 return Err(text);
             }
         }
         tally.moments += u64::from(pair.has_history());
         pair.moment_fault().map_or(Ok(answer), Err)
+    }
+
+    /// Makes a command on both programs and counts what it shows.
+    fn count(
+        &mut self,
+        random: &mut Random,
+        pair: &mut Pair,
+        asked: Asked<'_>,
+    ) -> Result<Answer, String> {
+        let command = asked.command;
+        let met = Met::by(pair.image(), pair.numbers());
+        let (said, rule) = (pair.said(command), pair.rule());
+        let (answer, cut) = asked.make(random, pair)?;
+        let tally = self.counts.of(pair.numbers().stated());
+        tally.call(command, &answer, met);
+        tally.made(Made {
+            command,
+            number: answer.number(),
+            tracks: met.tracks,
+            said,
+            rule,
+            cut,
+            changed: pair.changed(),
+            none_free: pair.image().len() >= 256 && discs::free_count(pair.image()) == 0,
+            history: pair.has_history(),
+        });
+        Ok(answer)
     }
 
     fn report(&self, call: &str, text: &str, place: Place) {
@@ -288,6 +375,11 @@ impl Driver {
     }
 }
 
+/// The source of a run's numbers.
+pub fn random_of(seed: u64, number: u64) -> Random {
+    Random::new(Random::new(seed ^ number.wrapping_mul(0xD1B5_4A32_D192_ED03)).draw())
+}
+
 fn wrongly_first(number: u32, first: u32) -> String {
     format!("both answer {number}, but {first} applies first")
 }
@@ -300,9 +392,9 @@ fn first_to_apply(stated: Stated, expected: Option<u32>) -> Option<u32> {
     }
 }
 
-/// The disc before a call, for a sample of the calls.
-fn some_twin(random: &mut Random, pair: &Pair) -> Option<Twin> {
-    if random.one_in(TWIN_IN) {
+/// The disc before a call, for a sample of the calls whose card stays.
+fn some_twin(random: &mut Random, pair: &Pair, asked: Asked<'_>) -> Option<Twin> {
+    if !asked.pulled && random.one_in(TWIN_IN) {
         Twin::new(random, pair.image(), pair.numbers())
     } else {
         None
@@ -442,6 +534,19 @@ fn replay_command(random: &mut Random, image: &[u8], kind: Kind, replays: &mut R
         return Command::Replay { writes };
     }
     replays.command(random, image, kind.sectors(), kind.arrangement())
+}
+
+/// What ends the silence after a cut: mostly a repair.
+fn restoring_command(random: &mut Random, image: &[u8], kind: Kind) -> Command {
+    match random.below(NEW_STARTS_IN) {
+        0 => Command::Blank {
+            name: b"PULLED".to_vec(),
+        },
+        1 => Command::Replay {
+            writes: Target::new(image, kind).good_list(random),
+        },
+        _ => Command::Repair,
+    }
 }
 
 /// Often of modules as long as there are any, under few names, or a blank disc.

@@ -4,13 +4,14 @@
 //! and the arguments are made for those asked for. So the answer is known
 //! without either program: the first of them in the call's order.
 
-use crate::calls::{Call, BAD_LIST, SHORT, SIZE};
+use crate::calls::{Call, BAD_LIST, SHORT, SIZE, UNSOUND};
 use crate::discs::{self, blank, free_count};
 use crate::kind::{Kind, Numbers, Stated};
 use crate::list_case::{Fault, Target};
 use reference::command::{Buffer, Command};
 use reference::generate::{break_rule, capacity, fresh_name, illegal_name, Random};
 use reference::writes_book::list_length;
+use std::ops::RangeInclusive;
 
 /// One case in so many states no kind of disc.
 const NO_KIND_IN: usize = 3;
@@ -18,6 +19,8 @@ const NO_KIND_IN: usize = 3;
 const WRONG_LENGTH_TOO_IN: usize = 4;
 /// One case in so many has one refusal or none, of any call.
 const FEW_IN: usize = 5;
+/// One case in so many is a repair, which looks at five rules.
+const REPAIRS_IN: usize = 10;
 
 /// A command, the image it is run on, the numbers it states, and the refusals
 /// that apply to it, in the call's order.
@@ -35,7 +38,7 @@ impl Case {
         let kind = numbers.of_image(random);
         let (call, refusals) = some_refusals(random, stated);
         let has = |number: u32| refusals.contains(&number);
-        let disc = Disc::new(random, kind, &has);
+        let disc = Disc::new(random, kind, call, &has);
         let command = disc.command(random, call, &has);
         let mut image = disc.image;
         if has(SIZE) && (stated.kind().is_some() || random.one_in(WRONG_LENGTH_TOO_IN)) {
@@ -70,7 +73,10 @@ fn wrong_length(random: &mut Random, kind: Kind, right: usize) -> usize {
 fn some_refusals(random: &mut Random, stated: Stated) -> (Call, Vec<u32>) {
     let pairs = |call: Call| call.pairs(stated).into_iter().map(move |pair| (call, pair));
     let pairs: Vec<(Call, (u32, u32))> = Call::ALL.into_iter().flat_map(pairs).collect();
-    let (call, mut asked) = if random.one_in(FEW_IN) {
+    let (call, mut asked) = if random.one_in(REPAIRS_IN) {
+        let refused: &[u32] = random.pick(&[&[UNSOUND], &[UNSOUND], &[]]);
+        (Call::Repair, refused.to_vec())
+    } else if random.one_in(FEW_IN) {
         (random.pick(&Call::ALL), Vec::new())
     } else {
         let (call, (one, other)) = random.pick(&pairs);
@@ -104,7 +110,7 @@ struct Disc {
 const MOST_PLAIN: usize = 700;
 
 impl Disc {
-    fn new(random: &mut Random, kind: Kind, has: &impl Fn(u32) -> bool) -> Disc {
+    fn new(random: &mut Random, kind: Kind, call: Call, has: &impl Fn(u32) -> bool) -> Disc {
         let [plain, protected, not_plain, absent, filling] = distinct_names(random);
         let tracks = random.between(1, 3);
         let mut disc = Disc {
@@ -120,12 +126,25 @@ impl Disc {
         if has(8) {
             disc.fill(random, &filling);
         }
-        if has(3) {
+        match call {
+            Call::Repair if has(UNSOUND) => disc.break_one_of(random, 1..=5),
+            Call::Repair if random.one_in(2) => disc.break_one_of(random, 6..=8),
             // The used count alone: all that other refusals look at stays.
-            let (sectors, arrangement) = (kind.sectors(), kind.arrangement());
-            break_rule(random, &mut disc.image, sectors, arrangement, 7);
+            _ if has(UNSOUND) => disc.break_one_of(random, 7..=7),
+            _ => {}
         }
         disc
+    }
+
+    /// Leaves a disc of which the check reports one of these rules.
+    fn break_one_of(&mut self, random: &mut Random, rules: RangeInclusive<u32>) {
+        let (sectors, arrangement) = (self.kind.sectors(), self.kind.arrangement());
+        let sound = self.image.clone();
+        while !rules.contains(&reference::check(&self.image, sectors, arrangement).rule) {
+            self.image.copy_from_slice(&sound);
+            let rule = random.between(*rules.start() as usize, *rules.end() as usize);
+            break_rule(random, &mut self.image, sectors, arrangement, rule);
+        }
     }
 
     fn save_files(&mut self, random: &mut Random) {
@@ -179,6 +198,7 @@ impl Disc {
             },
             Call::View => view(random, self.kind, has(11)),
             Call::Replay => self.replay(random, has(BAD_LIST)),
+            Call::Repair => Command::Repair,
         }
     }
 

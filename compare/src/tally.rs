@@ -7,6 +7,7 @@ use crate::calls::{Call, SIZE};
 use crate::kind::{Kind, Stated};
 use crate::list_tally::{ListTally, Made};
 use crate::met::{Met, Size};
+use crate::repair_tally::RepairTally;
 use reference::command::{Answer, Command};
 use std::collections::BTreeMap;
 
@@ -41,6 +42,7 @@ pub struct Tally {
     refused_twins: u64,
     pub moments: u64,
     lists: ListTally,
+    repairs: RepairTally,
 }
 
 impl Tally {
@@ -61,6 +63,7 @@ impl Tally {
             refused_twins: 0,
             moments: 0,
             lists: ListTally::default(),
+            repairs: RepairTally::default(),
         }
     }
 
@@ -111,11 +114,12 @@ impl Tally {
         }
     }
 
-    /// Counts what a command shows of the lists of writes; nothing where no kind
-    /// of disc is stated.
-    pub fn lists(&mut self, made: Made<'_>) {
+    /// Counts what a command shows of the lists of writes, of cuts and of repairs;
+    /// nothing where no kind of disc is stated.
+    pub fn made(&mut self, made: Made<'_>) {
         if let Stated::Kind(kind) = self.stated {
             self.lists.command(made, kind);
+            self.repairs.command(made);
         }
     }
 
@@ -198,6 +202,7 @@ impl Tally {
             missing.extend((count == 0).then(|| name.to_string()));
         }
         missing.extend(self.lists.missing());
+        missing.extend(self.repairs.missing());
         missing
     }
 }
@@ -249,6 +254,7 @@ mod tests {
             after_last: 1,
             moments: 1,
             lists: ListTally::full(),
+            repairs: RepairTally::full(),
             ..tally
         }
     }
@@ -276,6 +282,7 @@ mod tests {
         tally.after_last = 0;
         tally.moments = 0;
         tally.lists = ListTally::default();
+        tally.repairs = RepairTally::default();
         let expected = [
             "read answering 9",
             "rename with 6 and 5",
@@ -290,9 +297,10 @@ mod tests {
             "a view of the sector after the last",
             "moments of demand 3",
         ];
-        let (of_calls, of_lists) = (expected.len(), tally.lists.missing());
+        let of_calls = expected.len();
+        let others = [tally.lists.missing(), tally.repairs.missing()].concat();
         assert_eq!(tally.missing()[..of_calls], expected);
-        assert_eq!(tally.missing()[of_calls..], of_lists);
+        assert_eq!(tally.missing()[of_calls..], others);
     }
 
     #[test]

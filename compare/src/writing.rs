@@ -1,5 +1,5 @@
-//! The calls of request e: the four commands that give a list of what they
-//! wrote, and the replay of such a list.
+//! The calls of requests e and g: the four commands that give a list of what they
+//! wrote, the replay of such a list, and the repair.
 
 use crate::ffi;
 use crate::kind::Numbers;
@@ -21,14 +21,21 @@ pub type Change = fn(&Command, &mut [u8], Numbers, [&[u8]; 2], &mut [u8]) -> Fil
 /// a call that does.
 pub type Replay = fn(&mut [u8], Numbers, &mut [u8]) -> u32;
 
+pub type Repair = fn(&mut [u8], Numbers) -> u32;
+
 /// The calls to compare: the library's, unless a test plants others.
 #[derive(Debug, Clone, Copy)]
 pub struct Writing {
     pub change: Change,
     pub replay: Replay,
+    pub repair: Repair,
 }
 
-pub const OF_LIBRARY: Writing = Writing { change, replay };
+pub const OF_LIBRARY: Writing = Writing {
+    change,
+    replay,
+    repair,
+};
 
 /// No other command gets here; it would leave the image and the buffer.
 fn change(
@@ -73,4 +80,8 @@ fn change(
 
 fn replay(image: &mut [u8], numbers: Numbers, writes: &mut [u8]) -> u32 {
     ffi::replay(image, numbers.sectors, numbers.arrangement, writes)
+}
+
+fn repair(image: &mut [u8], numbers: Numbers) -> u32 {
+    ffi::repair(image, numbers.sectors, numbers.arrangement)
 }

@@ -8,18 +8,11 @@ use crate::refusal::Refusal;
 /// The number of the lowest broken rule, or 0 for a sound image. Each rule may
 /// rely on those before it.
 pub fn broken_rule(disc: Disc<'_>) -> u32 {
-    let mut marks = Marks::new(disc);
-    if !directory_pointer_is_right(disc) {
-        1
-    } else if marks.walk(disc.directory_pointer()).is_none() {
-        2
-    } else if !directory::sectors(disc).all(|sector| directory_sector_is_right(disc, sector)) {
-        3
-    } else if names_repeat(disc) {
-        4
-    } else if !directory::entries(disc).all(|(_, entry)| marks.file_is_right(&entry)) {
-        5
-    } else if !marks.free_chain_is_right() {
+    let mut marks = match Marks::of_directory_and_files(disc) {
+        Ok(marks) => marks,
+        Err(rule) => return rule,
+    };
+    if !marks.free_chain_is_right() {
         6
     } else if disc.used_count() != file_sectors(disc) {
         7
@@ -37,6 +30,15 @@ pub fn require_sound(disc: Disc<'_>) -> Result<(), Refusal> {
     }
 }
 
+/// A mark for each sector that is 0/1 or met by the directory or a file, by
+/// sector number; refused if one of rules 1 to 5 is broken.
+pub fn taken(disc: Disc<'_>) -> Result<[bool; MAX_SECTORS], Refusal> {
+    match Marks::of_directory_and_files(disc) {
+        Ok(marks) => Ok(marks.met),
+        Err(_) => Err(Refusal::Unsound),
+    }
+}
+
 /// One mark for each sector that a chain has met. 0/1 is marked from the
 /// start, so that no chain may meet it.
 struct Marks<'a> {
@@ -49,6 +51,25 @@ impl<'a> Marks<'a> {
         let mut met = [false; MAX_SECTORS];
         met[Sector::SYSTEM.number()] = true;
         Marks { disc, met }
+    }
+
+    /// The marks once rules 1 to 5 are found to hold, or the lowest of them that
+    /// is broken.
+    fn of_directory_and_files(disc: Disc<'a>) -> Result<Marks<'a>, u32> {
+        let mut marks = Marks::new(disc);
+        if !directory_pointer_is_right(disc) {
+            Err(1)
+        } else if marks.walk(disc.directory_pointer()).is_none() {
+            Err(2)
+        } else if !directory::sectors(disc).all(|sector| directory_sector_is_right(disc, sector)) {
+            Err(3)
+        } else if names_repeat(disc) {
+            Err(4)
+        } else if !directory::entries(disc).all(|(_, entry)| marks.file_is_right(&entry)) {
+            Err(5)
+        } else {
+            Ok(marks)
+        }
     }
 
     /// Marks a chain from its first sector to its end link, and gives its
@@ -130,7 +151,8 @@ fn names_repeat(disc: Disc<'_>) -> bool {
     names.windows(2).any(|pair| pair[0] == pair[1])
 }
 
-fn file_sectors(disc: Disc<'_>) -> usize {
+/// The sum of the entries' lengths.
+pub fn file_sectors(disc: Disc<'_>) -> usize {
     directory::entries(disc)
         .map(|(_, entry)| usize::from(entry.length))
         .sum()

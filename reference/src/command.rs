@@ -58,6 +58,8 @@ pub enum Command {
     Replay {
         writes: Vec<u8>,
     },
+    /// In demand 3 no change; it ends the silence after a cut.
+    Repair,
 }
 
 /// A command's answer, with the lent buffer or the view after the call. Only a
@@ -90,6 +92,16 @@ impl Answer {
     pub fn accepted(&self) -> bool {
         self.number() == 0
     }
+
+    /// The list of writes of an accepted save, delete, rename or protect.
+    pub fn list_of_writes(&self) -> Option<&[u8]> {
+        match self {
+            Answer::Wrote(filled, buffer) if filled.number == 0 => {
+                buffer.get(..filled.length as usize)
+            }
+            _ => None,
+        }
+    }
 }
 
 impl Command {
@@ -118,6 +130,7 @@ impl Command {
             Command::Replay { writes } => {
                 Answer::Number(crate::replay(image, sectors, arrangement, writes))
             }
+            Command::Repair => Answer::Number(crate::repair(image, sectors, arrangement)),
             Command::Save { writes, .. }
             | Command::Delete { writes, .. }
             | Command::Rename { writes, .. }

@@ -1,7 +1,7 @@
 //! The commands but save, each in the order of its refusals. Refusal 1 comes
 //! first in all of them, when the caller opens the disc.
 
-use crate::check::require_sound;
+use crate::check::{self, require_sound};
 use crate::directory::{self, Entry, Slot, PROTECTED, UNPROTECTED};
 use crate::disc::{Address, Disc, DiscMut, Sector, DISC_NAME, FREE_COUNT, LINK_BYTES, VERSION};
 use crate::module::{copy_bytes, plain_header};
@@ -12,8 +12,8 @@ use crate::Reading;
 use std::ops::Range;
 
 const VERSION_TEXT: &[u8; 17] = b"TANDOS 65 IMAGE 1";
-/// 0/1 and 0/4 come first in either passing order and are never free.
-const TAKEN_ON_BLANK: usize = 2;
+/// 0/4 comes directly after 0/1 in either passing order.
+const PLACE_OF_BLANK_DIRECTORY: usize = 1;
 
 const DISC_RECORD: u8 = 1;
 const DISC_RECORD_BYTES: usize = 14;
@@ -119,35 +119,54 @@ pub fn protect(
 
 pub fn blank(mut disc: DiscMut<'_>, name: &[u8]) -> Result<(), Refusal> {
     let name = Name::of_disc(name).ok_or(Refusal::Name)?;
-    let (sectors, order) = (disc.now().sectors(), disc.now().format().passing_order());
+    let order = disc.now().format().passing_order();
     disc.clear();
     let system = disc.system_mut();
     system[DISC_NAME..DISC_NAME + NAME_BYTES].copy_from_slice(&name.0);
     system[VERSION..VERSION + VERSION_TEXT.len()].copy_from_slice(VERSION_TEXT);
-    disc.put_directory_pointer(Address {
+    let directory = Address {
         track: 0,
-        sector: order[TAKEN_ON_BLANK - 1],
+        sector: order[PLACE_OF_BLANK_DIRECTORY],
+    };
+    disc.put_directory_pointer(directory);
+    let directory = disc.now().locate(directory);
+    let free = thread_free_chain(&mut disc, |sector| {
+        sector == Sector::SYSTEM || Some(sector) == directory
     });
-    disc.put_counts(sectors - TAKEN_ON_BLANK, 0);
-    link_blank_chain(&mut disc, order);
+    disc.put_counts(free, 0);
     Ok(())
 }
 
-/// Links the free sectors from the last back to the first.
-fn link_blank_chain(disc: &mut DiscMut<'_>, order: &[u8]) {
-    let mut next = Address::END;
-    for track in (0..disc.now().tracks()).rev() {
-        let taken = if track == 0 { TAKEN_ON_BLANK } else { 0 };
-        for &sector in order[taken..].iter().rev() {
-            let number = track * order.len() + usize::from(sector) - 1;
-            disc.put_link(Sector::numbered(number), next);
-            next = Address {
-                track: track as u8,
-                sector,
-            };
+/// Makes the free chain and both counts anew from the directory and the files.
+pub fn repair(mut disc: DiscMut<'_>) -> Result<(), Refusal> {
+    let taken = check::taken(disc.now())?;
+    let used = check::file_sectors(disc.now());
+    let free = thread_free_chain(&mut disc, |sector| taken[sector.number()]);
+    disc.put_counts(free, used);
+    Ok(())
+}
+
+/// Links the sectors that aren't taken in the order of a blank disc, from the
+/// last back to the first, points the free pointer at the first and gives how
+/// many there are. Nothing but links and the free pointer is written.
+fn thread_free_chain(disc: &mut DiscMut<'_>, taken: impl Fn(Sector) -> bool) -> usize {
+    let (tracks, order) = (disc.now().tracks(), disc.now().format().passing_order());
+    let (mut next, mut length) = (Address::END, 0);
+    for track in (0..tracks).rev() {
+        for &in_track in order.iter().rev() {
+            let sector = Sector::numbered(track * order.len() + usize::from(in_track) - 1);
+            if !taken(sector) {
+                disc.put_link(sector, next);
+                next = Address {
+                    track: track as u8,
+                    sector: in_track,
+                };
+                length += 1;
+            }
         }
     }
     disc.put_free_pointer(next);
+    length
 }
 
 /// Where the bytes after the link of any sector on the disc, sound or not, lie

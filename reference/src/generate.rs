@@ -1,5 +1,5 @@
-//! Seeded generators of discs, sound and damaged, of command lists, and of
-//! runs of weekly totals.
+//! Seeded generators of discs, sound and damaged, of command lists with cards
+//! pulled or not, and of runs of weekly totals.
 //!
 //! A seed gives discs for either number of sectors. They are laid out plain and
 //! arranged at the end, so that a seed gives the same disc in either
@@ -8,20 +8,24 @@
 //! that, so that only the numbers are wrong.
 
 mod commands;
+mod cuts;
 mod damage;
 mod discs;
 mod files;
 mod names;
 mod random;
+mod repairs;
 mod replays;
 mod sheets;
 
 pub use commands::{command, command_list};
+pub use cuts::{step_list, Cuts};
 pub use damage::{break_rule, damage, damaged_disc, flip_byte, wrong_length};
 pub use discs::{sound_disc, sound_disc_of};
 pub use files::capacity;
 pub use names::{fresh_name, illegal_name, standing_names, typed_form};
 pub use random::Random;
+pub use repairs::{damage_free, fill_up, repair_disc, FreeDamage, FREE_DAMAGES};
 pub use replays::Replays;
 pub use sheets::{edge_sheet, good_sheet, spoil, table, totals_run, wrong_table};
 pub use sheets::{Spoil, TotalsRun};

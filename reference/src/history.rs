@@ -6,6 +6,7 @@
 //! start and keeps them.
 
 use crate::command::{Answer, Buffer, Command};
+use crate::cuts::{counts_as_done, write_count, Step};
 use crate::disc::{word, Disc, Sector, FREE_COUNT};
 use crate::generate::typed_form;
 use crate::writes_book::{list_fault, list_length};
@@ -200,8 +201,8 @@ impl Book {
         })
     }
 
-    /// Enters a command. A refused one changes nothing, and neither does a
-    /// replay: after an accepted one the book is over (see `History`).
+    /// Enters a command. A refused one changes nothing, nor does any repair, nor
+    /// a replay: after an accepted one the book is over (see `History`).
     pub fn record(&mut self, command: &Command, accepted: bool) {
         if !accepted {
             return;
@@ -231,6 +232,7 @@ impl Book {
             | Command::Read { .. }
             | Command::Protect { .. }
             | Command::View { .. }
+            | Command::Repair
             | Command::Replay { .. } => {}
         }
     }
@@ -261,13 +263,17 @@ impl Book {
     }
 }
 
-/// The book of a run with replays. After an accepted one, and as long as the
-/// image was never sound, the next sound image is a new start.
+/// The book of a run with replays, cuts and repairs. After an accepted replay,
+/// and as long as the image was never sound, the next sound image is a new
+/// start. From a cut to the next accepted repair, replay or blank the book is
+/// kept on, but demand 3 is silent.
 #[derive(Debug, Clone, PartialEq, Eq)]
 pub struct History {
     sectors: u32,
     arrangement: u32,
     book: Option<Book>,
+    /// A card was pulled and nothing that ends the silence came since.
+    cut: bool,
 }
 
 impl History {
@@ -276,12 +282,13 @@ impl History {
             sectors,
             arrangement,
             book: Book::start(image, sectors, arrangement),
+            cut: false,
         }
     }
 
     /// None while demand 3 is silent.
     pub fn book(&self) -> Option<&Book> {
-        self.book.as_ref()
+        self.book.as_ref().filter(|_| !self.cut)
     }
 
     /// Enters a command. The image as it left it is looked at only for a start.
@@ -290,6 +297,30 @@ impl History {
         match &mut self.book {
             Some(book) if !replayed => book.record(command, accepted),
             _ => self.book = Book::start(image, self.sectors, self.arrangement),
+        }
+        let ends_silence = matches!(command, Command::Repair | Command::Blank { .. });
+        if replayed || accepted && ends_silence {
+            self.cut = false;
+        }
+    }
+
+    /// Enters an accepted command whose list of so many writes was cut after
+    /// `made` of them.
+    pub fn record_cut(&mut self, command: &Command, writes: usize, made: usize) {
+        if let (Some(book), Some(done)) = (&mut self.book, counts_as_done(command, writes, made)) {
+            book.record(command, done);
+        }
+        self.cut = true;
+    }
+
+    /// Enters a step with its answer and the image after it.
+    pub fn record_step(&mut self, step: &Step, answer: &Answer, image: &[u8]) {
+        let (sectors, arrangement) = (self.sectors, self.arrangement);
+        let list = answer.list_of_writes();
+        let writes = list.and_then(|list| write_count(image, sectors, arrangement, list));
+        match (step.cut, writes) {
+            (Some(made), Some(writes)) => self.record_cut(&step.command, writes, made),
+            _ => self.record(&step.command, answer.accepted(), image),
         }
     }
 }

@@ -15,6 +15,7 @@
 mod check;
 pub mod command;
 mod commands;
+pub mod cuts;
 mod directory;
 mod disc;
 pub mod generate;
@@ -22,6 +23,7 @@ pub mod history;
 mod module;
 mod name;
 mod refusal;
+pub mod repair_book;
 mod save;
 mod totals;
 pub mod totals_book;
@@ -180,6 +182,13 @@ pub fn replay(image: &mut [u8], sectors: u32, arrangement: u32, writes: &[u8]) -
 pub fn blank(image: &mut [u8], sectors: u32, arrangement: u32, name: &[u8]) -> u32 {
     let disc = DiscMut::open(image, sectors, arrangement);
     refusal::number(disc.and_then(|disc| commands::blank(disc, name)))
+}
+
+/// Threads every sector that neither the directory nor a file meets into a new
+/// free chain and sets both counts, if rules 1 to 5 of the check hold.
+pub fn repair(image: &mut [u8], sectors: u32, arrangement: u32) -> u32 {
+    let disc = DiscMut::open(image, sectors, arrangement);
+    refusal::number(disc.and_then(commands::repair))
 }
 
 /// The 254 bytes after a sector's link, in the image itself; empty if refused.

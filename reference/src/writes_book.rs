@@ -15,10 +15,10 @@ pub fn list_length(writes: usize) -> usize {
 }
 
 /// One record of a list: the number of its sector, and the 256 bytes.
-type Write<'a> = (usize, &'a [u8]);
+pub(crate) type Write<'a> = (usize, &'a [u8]);
 
 /// The writes of a list in order; nothing if it is bad.
-fn writes<'a>(disc: Disc<'_>, list: &'a [u8]) -> Option<Vec<Write<'a>>> {
+pub(crate) fn writes<'a>(disc: Disc<'_>, list: &'a [u8]) -> Option<Vec<Write<'a>>> {
     let mut writes = Vec::new();
     let mut left = list;
     loop {

@@ -4,6 +4,7 @@
 #include <string.h>
 
 #include "lent.h"
+#include "repairs.h"
 #include "report.h"
 
 struct stated stated = { TANDOS_TEN, TANDOS_PLAIN };
@@ -97,6 +98,30 @@ tandos_reading try_read(const struct disc *disc, struct text name,
     if (reading.number != TANDOS_DONE)
         expect_zeros(&reading);
     return reading;
+}
+
+static uint32_t repair_once(struct disc *disc)
+{
+    struct lent image = lend_disc(disc);
+    uint32_t number = tandos_repair(ON(image));
+
+    take_back("image after repair", disc, &image, number);
+    return number;
+}
+
+uint32_t try_repair(struct disc *disc)
+{
+    struct disc expected = *disc;
+    uint32_t number = repair_once(disc);
+
+    if (number != TANDOS_DONE)
+        return number;
+    make_repaired(&expected);
+    expect_disc("disc after repair", &expected, disc);
+    EXPECT_NUMBER(0, try_check(disc).rule);
+    EXPECT_NUMBER(0, repair_once(disc));
+    expect_disc("disc repaired twice", &expected, disc);
+    return number;
 }
 
 uint32_t try_blank(struct disc *disc, struct text name)
@@ -196,6 +221,7 @@ static void expect_1_of_all(struct disc *disc, const struct arguments *given)
     EXPECT_NUMBER(1, try_rename(disc, name, new_name));
     EXPECT_NUMBER(1, try_protect(disc, name, 1));
     EXPECT_NUMBER(1, try_replay(disc, given->writes));
+    EXPECT_NUMBER(1, try_repair(disc));
     EXPECT_NUMBER(1, try_blank(disc, text(given->disc_name)));
     EXPECT_NUMBER(1, try_view_number(disc, given->track, given->sector));
     expect_disc("disc after refusals", &expected, disc);

@@ -61,6 +61,9 @@ struct command a_delete(struct text name);
 struct command a_rename(struct text old_name, struct text new_name);
 struct command a_protect(struct text name, uint32_t on);
 
+/* A buffer that holds more than any list. */
+#define WRITES_ROOM (COMMAND_WRITES_MAX + 16)
+
 tandos_filled try_command(struct disc *disc, const struct command *command,
                           size_t writes_len);
 
@@ -82,6 +85,10 @@ uint32_t try_rename(struct disc *disc, struct text old_name,
 uint32_t try_protect(struct disc *disc, struct text name, uint32_t on);
 
 uint32_t try_replay(struct disc *disc, struct text list);
+
+/* Where it is accepted, the disc is the one made by hand, sound, and repaired
+ * once more it stays. */
+uint32_t try_repair(struct disc *disc);
 uint32_t try_blank(struct disc *disc, struct text name);
 uint32_t try_view_number(const struct disc *disc, uint32_t track,
                          uint32_t sector);

@@ -171,9 +171,6 @@ static void expect_list(const struct command *command,
     expect_replayed(before, after, &list);
 }
 
-/* A buffer that holds more than any list. */
-#define WRITES_ROOM (COMMAND_WRITES_MAX + 16)
-
 static uint32_t try_with_list(struct disc *disc, struct command command)
 {
     struct disc before = *disc;

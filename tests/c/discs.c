@@ -71,21 +71,52 @@ void arrange_back(uint8_t *plain, const uint8_t *image, size_t length,
     memcpy(plain + whole, image + whole, length - whole);
 }
 
-struct place free_place(unsigned k)
+struct place passed_place(unsigned n)
 {
     static const unsigned of_ten[] = { 1, 4, 7, 10, 3, 6, 9, 2, 5, 8 };
     static const unsigned of_nine[] = { 1, 4, 7, 2, 5, 8, 3, 6, 9 };
     const unsigned *passed = disc_sectors == 9 ? of_nine : of_ten;
 
+    return place(n / disc_sectors, passed[n % disc_sectors]);
+}
+
+struct place free_place(unsigned k)
+{
     /* 0/1 and 0/4 come before the free chain. */
-    return place((k + 2) / disc_sectors, passed[(k + 2) % disc_sectors]);
+    return passed_place(k + 2);
+}
+
+static size_t start_of(struct place place)
+{
+    return 256 * ((size_t)disc_sectors * place.track + place.sector - 1);
 }
 
 uint8_t *at(struct disc *disc, struct place place, unsigned byte)
 {
-    unsigned number = disc_sectors * place.track + place.sector - 1;
+    return disc->bytes + start_of(place) + byte;
+}
 
-    return disc->bytes + 256 * number + byte;
+int is_on_disc(const struct disc *disc, struct place place)
+{
+    return place.sector >= 1 && place.sector <= disc_sectors &&
+           start_of(place) < disc->length;
+}
+
+const uint8_t *sector_of(const struct disc *disc, struct place place)
+{
+    return disc->bytes + start_of(place);
+}
+
+struct place link_of(const struct disc *disc, struct place from)
+{
+    const uint8_t *sector = sector_of(disc, from);
+
+    return place(sector[0], sector[1]);
+}
+
+struct place pair_at(const uint8_t *pair)
+{
+    return place(pair[1], pair[0]);
 }
 
 static void put_word(uint8_t *to, unsigned word)

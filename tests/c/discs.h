@@ -40,12 +40,27 @@ struct place {
 
 struct place place(unsigned track, unsigned sector);
 
+/* The n-th sector of a disc in the order in which a blank disc's chain passes
+ * them, from 0: 0/1, 0/4, 0/7, .. */
+struct place passed_place(unsigned n);
+
 /* The k-th sector of a blank disc's free chain, from 0: 0/7, 0/10, 0/3, .. or
  * 0/7, 0/2, 0/5, .. */
 struct place free_place(unsigned k);
 
 /* Byte `byte` of a sector. */
 uint8_t *at(struct disc *disc, struct place place, unsigned byte);
+
+/* What stands on a disc, which may be any bytes: a library that goes wrong
+ * leaves any place there. No chain of a disc is longer than CHAIN_MOST. */
+#define CHAIN_MOST 800
+
+int is_on_disc(const struct disc *disc, struct place place);
+const uint8_t *sector_of(const struct disc *disc, struct place place);
+struct place link_of(const struct disc *disc, struct place from);
+
+/* The place of a pair in the system sector or in an entry. */
+struct place pair_at(const uint8_t *pair);
 
 void put_link(struct disc *disc, struct place from, struct place to);
 void put_free_pointer(struct disc *disc, struct place to);

@@ -29,6 +29,15 @@ static int is_added_up(void)
     return done == TANDOS_DONE && totals[TANDOS_WORKERS - 1] == 258;
 }
 
+// A disc whose used count is wrong is repaired to what it was.
+static int is_repaired(const tandos_image *disc)
+{
+    bytes[0x16] ^= 1;
+    return broken_rule(disc->arrangement) == 7 &&
+           tandos_repair(TANDOS_ON(*disc)) == TANDOS_DONE &&
+           broken_rule(disc->arrangement) == 0;
+}
+
 // What the library wrote to a disc, it writes to a copy of it.
 static int is_replayed(const tandos_image *disc)
 {
@@ -57,5 +66,6 @@ int main(void)
     uint32_t refused = tandos_check(NULL, 0, TANDOS_NINE, TANDOS_PLAIN).number;
 
     return done == TANDOS_DONE && is_moved() && is_replayed(&disc) &&
-           is_added_up() && tandos_refusal_name(refused)[0] == 'S' ? 0 : 1;
+           is_repaired(&disc) && is_added_up() &&
+           tandos_refusal_name(refused)[0] == 'S' ? 0 : 1;
 }

@@ -25,6 +25,8 @@ static const struct test tests[] = {
     { "view", test_view },
     { "writes", test_writes },
     { "replay", test_replay },
+    { "repair", test_repair },
+    { "cuts", test_cuts },
     { "sizes", test_sizes },
     { "order", test_order },
     { "arrangement", test_arrangement },

@@ -26,7 +26,8 @@ static void no_arrangement(void)
 }
 
 /* The blank disc of two tracks, moved: position for position, by hand. 0/4, the
- * directory, and every other byte but these are zeros. */
+ * directory, and every other byte but these are zeros. Without its links a
+ * repair makes it again. */
 static void moved_blank(void)
 {
     static const struct {
@@ -51,6 +52,11 @@ static void moved_blank(void)
     EXPECT_NUMBER(0, tandos_blank(image, sizeof image, TANDOS_TEN,
                                   TANDOS_MOVED, TANDOS_TEXT("PIECES")));
     expect_bytes("moved blank disc", expected, image, sizeof image);
+    for (i = 0; i < sizeof links / sizeof links[0]; i++)
+        memset(image + links[i].position, 0xEE, 2);
+    EXPECT_NUMBER(0, tandos_repair(image, sizeof image, TANDOS_TEN,
+                                   TANDOS_MOVED));
+    expect_bytes("moved blank disc repaired", expected, image, sizeof image);
 }
 
 /* A disc lent in the arrangement in which it is not. */
@@ -75,6 +81,25 @@ static void misstated(void)
     EXPECT_NUMBER(0, tandos_delete(image, sizeof image, TANDOS_TEN, other,
                                    name.bytes, name.length, writes,
                                    sizeof writes).number);
+}
+
+/* A repair believes what is stated. The moved disc stated as plain breaks rule
+ * 3. The plain one stated as moved has an empty directory there, so that rules
+ * 1 to 5 hold: the repair is done, and the file is lost. */
+static void misstated_repair(void)
+{
+    static uint8_t image[40 * 2560];
+    int is_plain = stated.arrangement == TANDOS_PLAIN;
+    struct disc disc;
+
+    make_pieces(&disc);
+    arrange(image, disc.bytes, sizeof image,
+            is_plain ? TANDOS_MOVED : TANDOS_PLAIN);
+    arrange_back(disc.bytes, image, sizeof image, stated.arrangement);
+    EXPECT_NUMBER(is_plain ? 3 : 6, try_check(&disc).rule);
+    EXPECT_NUMBER(is_plain ? 3 : 0, try_repair(&disc));
+    EXPECT_NUMBER(is_plain ? 3 : 4,
+                  try_read(&disc, text("THU.PCS"), 300).number);
 }
 
 /* Number, image, list of writes, and what a read or list left in its buffer. */
@@ -112,6 +137,7 @@ void test_arrangement(void)
     /* Only discs of ten sectors a track have a moved form. */
     if (disc_sectors == TANDOS_TEN) {
         misstated();
+        misstated_repair();
         moved_blank();
         run_on_both();
     }

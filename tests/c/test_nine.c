@@ -35,6 +35,17 @@ static void put_blank(uint8_t *image, unsigned tracks, const char *at_10)
     memcpy(image + 0x40, "TANDOS 65 IMAGE 1", 17);
 }
 
+/* Two bytes in front of each sector but 0/1 and 0/4. */
+static void spoil_links(struct disc *disc)
+{
+    size_t start;
+
+    for (start = 0; start < disc->length; start += 256)
+        if (start != 0 && start != 768)
+            memset(disc->bytes + start, 0xEE, 2);
+}
+
+/* Without its links a repair makes it again. */
 static void blank_of(unsigned tracks, const char *at_10)
 {
     struct disc disc, expected;
@@ -46,6 +57,9 @@ static void blank_of(unsigned tracks, const char *at_10)
     EXPECT_NUMBER(0, try_blank(&disc, text("EARLY")));
     expect_disc("blank disc of nine", &expected, &disc);
     EXPECT_NUMBER(0, try_check(&disc).rule);
+    spoil_links(&disc);
+    EXPECT_NUMBER(0, try_repair(&disc));
+    expect_disc("blank disc of nine repaired", &expected, &disc);
 }
 
 /* 7, 16, 358 = $0166 and 718 = $02CE sectors are free. */

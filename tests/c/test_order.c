@@ -60,7 +60,8 @@ static void order_of_read(void)
     EXPECT_NUMBER(10, try_read(&disc, text("B"), 299).number);
 }
 
-/* List: 1, 3, 10. Check: 1. Blank: 1, 2. View: 1, 11. Replay: 1, 14. */
+/* List: 1, 3, 10. Check: 1. Blank: 1, 2. View: 1, 11. Replay: 1, 14. Repair: 1,
+ * 3, and not 3 of rule 7, which is the one broken here. */
 static void order_without_files(void)
 {
     struct disc disc;
@@ -71,12 +72,18 @@ static void order_without_files(void)
     EXPECT_NUMBER(1, try_blank(&disc, text("A.B")));
     EXPECT_NUMBER(1, try_view_number(&disc, 1, 11));
     EXPECT_NUMBER(1, try_replay(&disc, text("X")));
+    EXPECT_NUMBER(1, try_repair(&disc));
+    *at(&disc, place(0, 4), 2) = 0;
+    EXPECT_NUMBER(1, try_repair(&disc));
     make_unsound(&disc);
     EXPECT_NUMBER(3, try_list(&disc, 0).number);
     EXPECT_NUMBER(0, try_check(&disc).number);
     EXPECT_NUMBER(2, try_blank(&disc, text("A.B")));
     EXPECT_NUMBER(11, try_view_number(&disc, 1, 11));
     EXPECT_NUMBER(14, try_replay(&disc, text("X")));
+    EXPECT_NUMBER(0, try_repair(&disc));
+    *at(&disc, place(0, 4), 2) = 0;
+    EXPECT_NUMBER(3, try_repair(&disc));
     EXPECT_NUMBER(0, try_blank(&disc, text("AB")));
 }
 

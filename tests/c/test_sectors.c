@@ -118,7 +118,8 @@ static void lengths_of_both(void)
 }
 
 /* A disc of the one kind stated as the other, which its length fits: the rule
- * that is broken, and every call that asks for a sound disc. */
+ * that is broken, and every call that asks for a sound disc. A repair believes
+ * what is stated, and is done where rules 1 to 5 happen to hold. */
 static void other_kind(uint32_t sectors, unsigned tracks, unsigned rule)
 {
     struct disc disc;
@@ -135,6 +136,8 @@ static void other_kind(uint32_t sectors, unsigned tracks, unsigned rule)
     EXPECT_NUMBER(3, try_delete(&disc, text("A")));
     EXPECT_NUMBER(3, try_rename(&disc, text("A"), text("C")));
     EXPECT_NUMBER(3, try_protect(&disc, text("A"), 1));
+    use_kind(stated.sectors, TANDOS_PLAIN);
+    EXPECT_NUMBER(rule <= 5 ? 3 : 0, try_repair(&disc));
 }
 
 /* Of ten A is in 0/7 and 0/10. Of nine it is in 0/7 and 0/2 and so as good on

@@ -20,6 +20,7 @@ static void nothing_to_write(void)
     EXPECT_NUMBER(1, tandos_protect(NULL, 0, STATED, NULL, 0, 0, NULL,
                                     0).number);
     EXPECT_NUMBER(1, tandos_replay(NULL, 0, STATED, NULL, 0));
+    EXPECT_NUMBER(1, tandos_repair(NULL, 0, STATED));
 }
 
 /* Nothing lent at all: no call may look behind a NULL. */

@@ -68,6 +68,16 @@ static void rules_are_named(void)
     }
 }
 
+/* A repair of a disc that is stated wrongly loses its files: the check with the
+ * other kinds is named first. */
+static void check_before_repair(void)
+{
+    const char *sentence = tandos_refusal_text(TANDOS_UNSOUND);
+    const char *check = strstr(sentence, "check it with the others");
+
+    EXPECT_NUMBER(1, check != NULL && strstr(check, "repair it") != NULL);
+}
+
 void test_text(void)
 {
     uint32_t number;
@@ -81,4 +91,5 @@ void test_text(void)
     expect_distinct(tandos_refusal_text, 14);
     expect_distinct(tandos_rule_text, 8);
     rules_are_named();
+    check_before_repair();
 }

@@ -27,6 +27,7 @@ static void too_long(uint8_t *wide, uint8_t *image)
     EXPECT_NUMBER(1, tandos_view_number(wide, length, STATED, 0, 1));
     EXPECT_NUMBER(0, tandos_view_start(wide, length, STATED, 0, 1));
     EXPECT_NUMBER(1, tandos_replay(wide, length, STATED, end, sizeof end));
+    EXPECT_NUMBER(1, tandos_repair(wide, length, STATED));
     EXPECT_NUMBER(2, tandos_delete(image, track, STATED, wide, CUT_TO_ZERO + 1,
                                    writes, sizeof writes).number);
     EXPECT_NUMBER(7, tandos_save(image, track, STATED, name, 1, 0, 0, 0, wide,

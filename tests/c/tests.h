@@ -15,6 +15,8 @@ void test_check(void);
 void test_view(void);
 void test_writes(void);
 void test_replay(void);
+void test_repair(void);
+void test_cuts(void);
 void test_sizes(void);
 void test_order(void);
 void test_arrangement(void);

@@ -4,39 +4,6 @@
 
 #include "report.h"
 
-/* No chain of a disc is longer. */
-#define CHAIN_MOST 800
-
-static size_t start_of(struct place place)
-{
-    return 256 * ((size_t)disc_sectors * place.track + place.sector - 1);
-}
-
-/* A library that goes wrong may leave any place on a disc. */
-static int is_on_disc(const struct disc *disc, struct place place)
-{
-    return place.sector >= 1 && place.sector <= disc_sectors &&
-           start_of(place) < disc->length;
-}
-
-static const uint8_t *sector_of(const struct disc *disc, struct place place)
-{
-    return disc->bytes + start_of(place);
-}
-
-static struct place link_of(const struct disc *disc, struct place from)
-{
-    const uint8_t *sector = sector_of(disc, from);
-
-    return place(sector[0], sector[1]);
-}
-
-/* As it stands in the system sector and in entries. */
-static struct place pair_at(const uint8_t *pair)
-{
-    return place(pair[1], pair[0]);
-}
-
 void begin_writes(struct writes *writes)
 {
     writes->length = 0;

@@ -9,10 +9,10 @@ import subprocess
 
 from cases_map import (check_svg, check_text_map, damaged_disc, found_cells,
                        sound_disc, watched)
-from disc import Disc, SECTOR, USED_COUNT, moved
-from support import (DONE, REFUSED, TANDOS, case, does, equal, fails, holds,
-                     is_misuse, is_refused, read, sheet_of, tandos, unchanged,
-                     write)
+from disc import Disc, SECTOR, USED_COUNT, moved, unmoved
+from support import (DONE, REFUSED, REPAIR_HINT, TANDOS, case, does, equal,
+                     fails, holds, is_misuse, is_refused, read, sheet_of,
+                     tandos, unchanged, write)
 
 STATE_IT = " In the moved arrangement the disc is sound: state it with " \
            "--moved."
@@ -47,6 +47,7 @@ def _():
     found = moved(b"".join(numbers))[::SECTOR]
     equal(list(found), [0, 3, 6, 9, 2, 5, 8, 1, 4, 7,
                         10, 13, 16, 19, 12, 15, 18, 11, 14, 17])
+    equal(unmoved(moved(b"".join(numbers))), b"".join(numbers))
 
 
 @case("moved: blank of every number of tracks")
@@ -194,7 +195,7 @@ def _():
     holds(other, "moved.img: Rule ")
     equal(other.endswith("." + STATE_IT), True, other)
     equal(damaged, "bad.img: Rule 7 is broken: the used count is not the sum "
-          "of the file lengths.")
+          f"of the file lengths.{REPAIR_HINT}")
     holds(wrong, "wrong.img: refused with 1, SIZE.")
     equal((answer.error, answer.status), ("", REFUSED))
     plain, other, damaged, wrong = tandos(
@@ -239,11 +240,11 @@ def gives_no_hint(image, options):
     for command, rest in NEEDS_SOUND.items():
         answer = is_refused(3, image, command, image, *rest, *options, given=b"x")
         equal("the disc is sound" in answer.error, False, answer.error)
-    for arguments in (["check", image], ["map", image], ["map", image, "--svg", "-"]):
+    for arguments in (["check", image], ["map", image], ["map", image, "--svg", "-"],
+                      ["view", image, "0/1"]):
         answer = tandos(*arguments, *options)
         equal(b"the disc is sound" in answer.out, False)
         equal("the disc is sound" in answer.error, False)
-    does("view", image, "0/1", *options)
 
 
 @case("hint: none where the disc is unsound in both, or is not asked about")

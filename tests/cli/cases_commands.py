@@ -9,8 +9,9 @@ import subprocess
 import termios
 
 from disc import Disc, SECTOR, USED_COUNT
-from support import (DONE, REFUSED, TANDOS, case, does, equal, fails, holds,
-                     is_refused, read, sheet_of, tandos, unchanged, write)
+from support import (DONE, REFUSED, REPAIR_HINT, TANDOS, case, does, equal,
+                     fails, holds, is_refused, read, sheet_of, tandos,
+                     unchanged, write)
 
 
 def pieces():
@@ -354,7 +355,7 @@ def _():
     write("wrong.img", bytes(1))
     good = "a.img: The disc is sound.\n"
     bad = "bad.img: Rule 7 is broken: the used count is not the sum of the " \
-          "file lengths.\n"
+          f"file lengths.{REPAIR_HINT}\n"
     equal(does("check", "a.img", "a.img").text, good + good)
     answer = tandos("check", "a.img", "bad.img", "a.img")
     equal((answer.text, answer.error, answer.status),

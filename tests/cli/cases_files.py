@@ -136,7 +136,8 @@ def _():
                       ["rename", "x", "A", "B"], ["protect", "x", "A", "on"],
                       ["save", "x", "A", "a.img"], ["save", "a.img", "A", "x"],
                       ["totals", "a.img", "x"], ["replay", "a.img", "x"],
-                      ["replay", "x", "a.img"], ["writes", "x"]):
+                      ["replay", "x", "a.img"], ["writes", "x"],
+                      ["repair", "x"], ["repair", "--dry-run", "x"]):
         fails("x: cannot open", *arguments)
     equal(os.listdir("."), ["a.img"])
 

@@ -6,7 +6,8 @@ import shutil
 import subprocess
 
 from cases_usage import COMMANDS
-from disc import Disc, NINE, TEN, USED_COUNT, moved, records
+from disc import (DIRECTORY_POINTER, FREE_COUNT, Disc, NINE, TEN, USED_COUNT, moved,
+                  records)
 from support import (ROOT, REFUSALS, TANDOS, case, does, equal, holds, read, sheet_of,
                      tandos, write)
 
@@ -205,6 +206,76 @@ def _():
     equal(error.count("\n"), 3)
 
 
+def mend(*arguments):
+    process = subprocess.run(["./mend", *arguments], stdout=subprocess.PIPE,
+                             stderr=subprocess.PIPE)
+    return process.returncode, process.stdout.decode()
+
+
+def pulled(tracks, sectors=TEN):
+    """A disc with OLD, and the same with only the first write of a save."""
+    disc = Disc.blank(tracks, "PIECES", sectors)
+    disc.save("OLD.PCS", sheet_of(300))
+    before = disc.data[:]
+    disc.save("NEW", sheet_of(500))
+    return before, disc.data[:256] + before[256:]
+
+
+@case("examples/mend.c, built against the installed copy")
+def _():
+    build_example("mend")
+    sound, cut = pulled(3)
+    lost = bytearray(sound)
+    lost[FREE_COUNT] += 1
+    broken = bytearray(cut)
+    broken[DIRECTORY_POINTER] = 0
+    images = {"cut.img": cut, "sound.img": sound, "lost.img": lost,
+              "broken.img": broken, "short.img": b"short"}
+    for name, data in images.items():
+        write(name, data)
+    before = set(os.listdir("."))
+    listed = "  26 sectors free, 2 in files\n  OLD    PCS   2\n"
+    status, text = mend(*images, "missing.img")
+    equal(status, 1)
+    holds(text, "cut.img\n  Rule 7 is broken: the used count is not the sum of "
+          f"the file lengths.\n  Repaired.\n{listed}")
+    holds(text, f"sound.img\n  The disc is sound.\n{listed}")
+    holds(text, f"  Repaired.\n{listed}broken.img\n  Rule 1 is broken")
+    holds(text, "The repair was refused with 3, UNSOUND. ")
+    holds(text, "The check was refused with 1, SIZE. ")
+    holds(text, "3 of 6 discs are sound.\n")
+    for name in ("cut.img", "sound.img", "lost.img"):
+        equal(read(name), sound)
+    for name in ("broken.img", "short.img"):
+        equal(read(name), images[name])
+    equal(set(os.listdir(".")), before)
+    equal(mend("cut.img", "lost.img")[0], 0)
+    equal(mend()[0], 2)
+
+
+@case("examples/mend.c: a disc of another kind than the one stated")
+def _():
+    build_example("mend")
+    plain, cut = pulled(40)
+    nine, nine_cut = pulled(40, NINE)
+    images = {"plain.img": plain, "cut.img": cut, "nine.img": nine,
+              "nine-cut.img": nine_cut}
+    for name, data in images.items():
+        write(name, data)
+    status, text = mend("--moved", "plain.img", "cut.img")
+    equal((status, text.count("looks like a disc of another kind")), (1, 2))
+    status, text = mend("nine.img", "nine-cut.img")
+    equal((status, text.count("looks like a disc of another kind")), (1, 2))
+    for name, data in images.items():
+        equal(read(name), data)
+    equal(mend("--sectors", "9", "nine.img", "nine-cut.img")[0], 0)
+    equal(read("nine-cut.img"), nine)
+    write("moved.img", moved(cut))
+    equal(mend("--moved", "moved.img")[0], 0)
+    equal(read("moved.img"), moved(plain))
+    equal(mend("--sectors", "9", "--moved", "nine.img")[0], 1)
+
+
 def page(section):
     return os.path.join(ROOT, "man", f"tandos.{section}")
 
@@ -255,7 +326,7 @@ def _():
     header = read(os.path.join(ROOT, "include", "tandos.h")).decode()
     header = re.sub(r"/\*.*?\*/", "", header, flags=re.DOTALL)
     calls = re.findall(r"\b(tandos_\w+)\(", header)
-    equal(len(calls), 16)
+    equal(len(calls), 17)
     for call in calls:
         holds(text, f".Nm {call}")
         holds(text, f".It Fn {call}\n")

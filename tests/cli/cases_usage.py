@@ -14,6 +14,7 @@ COMMANDS = {
     "replay": "IMAGE FILE [--moved | --sectors 9]",
     "writes": "FILE [--json]",
     "check": "IMAGE.. [--moved | --sectors 9]",
+    "repair": "IMAGE.. [--dry-run] [--moved | --sectors 9]",
     "view": "IMAGE TRACK/SECTOR [--moved | --sectors 9]",
     "map": "IMAGE [--color=WHEN] [--svg FILE] [--moved | --sectors 9]",
     "rearrange": "IMAGE --to moved|plain -o FILE",
@@ -69,7 +70,7 @@ def _():
 def _():
     for command in COMMANDS:
         is_misuse(f"tandos {command}: arguments are missing", command)
-        if command not in ("check", "totals"):
+        if command not in ("check", "repair", "totals"):
             is_misuse(f"tandos {command}: there is no use for the argument "
                       "'fifth'", command, *(["x"] * count(command)), "fifth")
 
@@ -130,7 +131,8 @@ def _():
 def _():
     for arguments in (["blank", "-", "1", "D"], ["save", "-", "A", "s"],
                       ["delete", "-", "A"], ["rename", "-", "A", "B"],
-                      ["protect", "-", "A", "on"], ["replay", "-", "s"]):
+                      ["protect", "-", "A", "on"], ["replay", "-", "s"],
+                      ["repair", "-"]):
         write("s", b"x")
         is_misuse("is a file, not '-'", *arguments)
 
@@ -151,6 +153,7 @@ def _():
         for arguments in (["--help"], ["--version"], ["list", "a.img"],
                           ["check", "a.img"], ["view", "a.img", "0/1"],
                           ["totals", "a.img"], ["totals", "a.img", "--csv"],
-                          ["writes", "list"], ["replay", "a.img", "list"]):
+                          ["writes", "list"], ["replay", "a.img", "list"],
+                          ["repair", "a.img"]):
             fails("standard output: cannot write: No space left", *arguments,
                   stdout=full)

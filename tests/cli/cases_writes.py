@@ -287,7 +287,9 @@ def _():
 
 
 UNSOUND = " The list is written all the same: if it was not made from this " \
-          "disc as it stood, go back to a copy of it.\n"
+          "disc as it stood, go back to a copy of it."
+OR_REPAIR = " Without a copy a repair would make the disc sound, but bring " \
+            "back no sector that the list has written over."
 
 
 @case("replay: a disc that is not sound afterwards is written, and told of")
@@ -305,10 +307,15 @@ def _():
         answer = tandos("replay", "a.img", "bad")
         equal((answer.status, answer.text, answer.error),
               (REFUSED, "a.img: 1 sector written.\n",
-               f"tandos: a.img: {rule}{UNSOUND}"))
+               f"tandos: a.img: {rule}{UNSOUND}{OR_REPAIR}\n"))
         equal(read("a.img"), disc.data)
     equal(does("replay", "a.img", "good").text, "a.img: 1 sector written.\n")
     equal(read("a.img"), old.data)
+    old.data[SECTOR * 3 + 2] = 9
+    write("worse", old.writes([3]))
+    answer = tandos("replay", "a.img", "worse")
+    holds(answer.error, "tandos: a.img: Rule 3 is broken: ")
+    equal(answer.error.endswith("." + UNSOUND + "\n"), True, answer.error)
     write("zeros.img", bytes(2560))
     answer = tandos("replay", "zeros.img", "good")
     holds(answer.error, "tandos: zeros.img: Rule ")

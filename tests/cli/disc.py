@@ -26,6 +26,16 @@ def moved(data):
                                for sector in PASSING_ORDER[TEN]))
 
 
+def unmoved(data):
+    """The plain image of a moved one."""
+    image = bytearray(data)
+    for track in range(0, len(data), TEN * SECTOR):
+        for place, sector in enumerate(PASSING_ORDER[TEN]):
+            to, at = track + SECTOR * (sector - 1), track + SECTOR * place
+            image[to:to + SECTOR] = data[at:at + SECTOR]
+    return image
+
+
 def stored_name(typed):
     name, _, extension = typed.partition(".")
     return name.ljust(6).encode() + extension.ljust(3).encode()
@@ -93,8 +103,7 @@ class Disc:
     @classmethod
     def blank(cls, tracks, name, sectors=TEN):
         disc = cls(bytes(tracks * sectors * SECTOR), sectors)
-        order = [sectors * track + sector - 1 for track in range(tracks)
-                 for sector in PASSING_ORDER[sectors]][2:]
+        order = disc.blank_order()[2:]
         for number, following in zip(order, order[1:]):
             disc.set_link(number, following)
         disc.set_pair(FREE_POINTER, order[0])
@@ -103,6 +112,12 @@ class Disc:
         disc.data[0x18:0x21] = name.ljust(9).encode()
         disc.data[0x40:0x51] = b"TANDOS 65 IMAGE 1"
         return disc
+
+    def blank_order(self):
+        """The numbers of all sectors, in the order of a blank disc."""
+        return [self.sectors * track + sector - 1
+                for track in range(self.tracks)
+                for sector in PASSING_ORDER[self.sectors]]
 
     def is_on(self, pair):
         return pair[0] < self.tracks and 1 <= pair[1] <= self.sectors
@@ -195,6 +210,21 @@ class Disc:
         """What a protect that is not refused does."""
         at, _ = self.find(typed)
         self.data[at + 15] = 0x80 if on else 0x00
+
+    def repair(self):
+        """What a repair that is not refused does."""
+        taken = {0, *self.directory().sectors}
+        for entry in self.entries():
+            taken.update(Walk(self, entry.first).sectors)
+        order = [number for number in self.blank_order()
+                 if number not in taken]
+        for number, following in zip(order, order[1:] + [None]):
+            self.set_link(number, following)
+        self.data[FREE_POINTER:FREE_POINTER + 2] = b"\0\0"
+        if order:
+            self.set_pair(FREE_POINTER, order[0])
+        self.set_word(FREE_COUNT, len(order))
+        self.set_word(USED_COUNT, sum(e.length for e in self.entries()))
 
     def find(self, typed):
         """Position and entry of a file that stands."""

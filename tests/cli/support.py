@@ -31,6 +31,10 @@ REFUSALS = {
     14: ("BAD LIST", "The file is no list of writes"),
 }
 
+# Where a repair would make an unsound disc sound.
+REPAIR_HINT = " A repair would make the disc sound: 'tandos repair --dry-run' " \
+              "shows what it would do."
+
 _cases = []
 
 

@@ -2,11 +2,7 @@
 
 #include <string.h>
 
-static void put_word(uint8_t *to, size_t word)
-{
-    to[0] = (uint8_t)word;
-    to[1] = (uint8_t)(word >> 8);
-}
+#include "places.h"
 
 /* The system sector and the directory pass first; the last link is zeros. */
 static void put_free_chain(struct image *image)
@@ -28,12 +24,13 @@ static void put_free_chain(struct image *image)
 void put_blank(struct image *image, const uint8_t *stored)
 {
     static const char version[] = "TANDOS 65 IMAGE 1";
-    uint8_t *system = image->bytes + sector_start(image->stated, 0, 1);
+    uint8_t *system = sector_to_write(image, system_link);
 
     memset(image->bytes, 0, image->length);
-    system[0x10] = 7;
-    system[0x12] = 4;
-    put_word(system + 0x14, image->length / TANDOS_SECTOR_SIZE - 2);
+    system[SYSTEM_FREE] = 7;
+    system[SYSTEM_DIRECTORY] = 4;
+    put_word(system + SYSTEM_FREE_COUNT,
+             image->length / TANDOS_SECTOR_SIZE - 2);
     memcpy(system + 0x18, stored, TANDOS_NAME_SIZE);
     memcpy(system + 0x40, version, sizeof version - 1);
     put_free_chain(image);

@@ -230,6 +230,17 @@ uint32_t call_replay(struct image *image, struct text writes)
     return number;
 }
 
+uint32_t call_repair(struct image *image)
+{
+    struct lent lent = lend(image->bytes, image->length);
+    tandos_image disc = disc_on(&lent, image->stated);
+    uint32_t number = tandos_repair(TANDOS_ON(disc));
+
+    count_answer(CALL_REPAIR, image->stated, number);
+    take_image(image, &lent, number, "image after a refused repair");
+    return number;
+}
+
 uint32_t call_blank(struct image *image, struct text name)
 {
     struct lent lent = lend(image->bytes, image->length);

@@ -45,6 +45,7 @@ tandos_filled call_rename(struct image *image, struct text old_name,
 tandos_filled call_protect(struct image *image, struct text name, uint32_t on,
                            size_t buffer_length);
 uint32_t call_replay(struct image *image, struct text writes);
+uint32_t call_repair(struct image *image);
 uint32_t call_blank(struct image *image, struct text name);
 
 /* On no image. */

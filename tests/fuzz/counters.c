@@ -30,6 +30,7 @@ static const struct row rows[CALLS] = {
     [CALL_PROTECT] = { "protect", BIT(0) | BIT(1) | BIT(2) | BIT(3) | BIT(4) |
                                   BIT(10) },
     [CALL_REPLAY] = { "replay", BIT(0) | BIT(1) | BIT(14) },
+    [CALL_REPAIR] = { "repair", BIT(0) | BIT(1) | BIT(3) },
     [CALL_BLANK] = { "blank", BIT(0) | BIT(1) | BIT(2) },
     [CALL_VIEW] = { "view", BIT(0) | BIT(1) | BIT(11) }
 };
@@ -64,6 +65,29 @@ static const char *const list_names[LIST_OCCASIONS] = {
     [SAVE_LONGEST] = "longest", [SHORT_BY_ONE] = "one-short"
 };
 
+static const char *const repair_names[REPAIR_OCCASIONS] = {
+    [REPAIR_RULE_1] = "rule-1", [REPAIR_RULE_2] = "rule-2",
+    [REPAIR_RULE_3] = "rule-3", [REPAIR_RULE_4] = "rule-4",
+    [REPAIR_RULE_5] = "rule-5", [REPAIR_RULE_6] = "rule-6",
+    [REPAIR_RULE_7] = "rule-7", [REPAIR_RULE_8] = "rule-8",
+    [REPAIR_KEEPS] = "keeps", [REPAIR_ORDERS] = "orders",
+    [REPAIR_NONE] = "none-free", [REPAIR_ONE] = "one-free",
+    [REPAIR_FREE_WORD] = "free-word", [REPAIR_USED_WORD] = "used-word",
+    [REPAIR_GROWN] = "grown"
+};
+
+static const char *const cut_names[CUT_OCCASIONS] = {
+    [CUT_SAVE_NONE] = "save-none", [CUT_SAVE_SYSTEM] = "save-0/1",
+    [CUT_SAVE_FILE] = "save-file", [CUT_SAVE_NO_ENTRY] = "no-entry",
+    [CUT_SAVE_UNLINKED] = "unlinked", [CUT_SAVE_WHOLE] = "save",
+    [CUT_DELETE_NONE] = "del-none", [CUT_DELETE_ENTRY] = "del-entry",
+    [CUT_DELETE_LAST] = "del-last", [CUT_DELETE_WHOLE] = "delete",
+    [CUT_RENAME_NONE] = "ren-none", [CUT_RENAME_WHOLE] = "rename",
+    [CUT_PROTECT_NONE] = "prot-none", [CUT_PROTECT_WHOLE] = "protect",
+    [CUT_GOES_ON] = "goes-on", [CUT_REFUSED] = "refused",
+    [CUT_REPAIRED] = "repaired"
+};
+
 static const char *const sheet_names[SHEET_OCCASIONS] = {
     [SHEET_TABLE] = "table", [SHEET_KIND] = "kind", [SHEET_CUT] = "cut",
     [SHEET_NO_END] = "no-end", [SHEET_AFTER_END] = "after-end",
@@ -83,7 +107,9 @@ static const char *const sheet_names[SHEET_OCCASIONS] = {
 #define OCCASION_FEATURES (RULE_FEATURES + TABLES * RULES)
 #define SIZE_FEATURES (OCCASION_FEATURES + DISC_KINDS * OCCASIONS)
 #define LIST_FEATURES (SIZE_FEATURES + 3 * SIZES)
-#define SHEET_FEATURES (LIST_FEATURES + DISC_KINDS * LIST_OCCASIONS)
+#define REPAIR_FEATURES (LIST_FEATURES + DISC_KINDS * LIST_OCCASIONS)
+#define CUT_FEATURES (REPAIR_FEATURES + DISC_KINDS * REPAIR_OCCASIONS)
+#define SHEET_FEATURES (CUT_FEATURES + DISC_KINDS * CUT_OCCASIONS)
 
 /* libFuzzer clears this section before each input and reads it after. */
 __attribute__((section("__libfuzzer_extra_counters")))
@@ -93,6 +119,8 @@ static unsigned long answers[TABLES][CALLS][NUMBERS];
 static unsigned long rules[TABLES][RULES];
 static unsigned long occasions[DISC_KINDS][OCCASIONS];
 static unsigned long list_occasions[DISC_KINDS][LIST_OCCASIONS];
+static unsigned long repair_occasions[DISC_KINDS][REPAIR_OCCASIONS];
+static unsigned long cut_occasions[DISC_KINDS][CUT_OCCASIONS];
 static unsigned long sheet_answers[NUMBERS];
 static unsigned long sheet_occasions[SHEET_OCCASIONS];
 static int is_on_twin;
@@ -172,6 +200,23 @@ void count_list_occasion(struct stated stated, enum list_occasion occasion)
 
     list_occasions[kind][occasion]++;
     mark(LIST_FEATURES + kind * LIST_OCCASIONS + occasion);
+}
+
+void count_repair_occasion(struct stated stated,
+                           enum repair_occasion occasion)
+{
+    enum kind kind = kind_of(stated);
+
+    repair_occasions[kind][occasion]++;
+    mark(REPAIR_FEATURES + kind * REPAIR_OCCASIONS + occasion);
+}
+
+void count_cut_occasion(struct stated stated, enum cut_occasion occasion)
+{
+    enum kind kind = kind_of(stated);
+
+    cut_occasions[kind][occasion]++;
+    mark(CUT_FEATURES + kind * CUT_OCCASIONS + occasion);
 }
 
 void count_sheet_answer(uint32_t number)
@@ -260,6 +305,14 @@ static void print_occasions(void)
     for (kind = 0; kind < DISC_KINDS; kind++)
         print_counts("writes", table_names[kind], list_occasions[kind],
                      LIST_OCCASIONS);
+    print_names(repair_names, REPAIR_OCCASIONS);
+    for (kind = 0; kind < DISC_KINDS; kind++)
+        print_counts("repairs", table_names[kind], repair_occasions[kind],
+                     REPAIR_OCCASIONS);
+    print_names(cut_names, CUT_OCCASIONS);
+    for (kind = 0; kind < DISC_KINDS; kind++)
+        print_counts("cuts", table_names[kind], cut_occasions[kind],
+                     CUT_OCCASIONS);
     print_names(sheet_names, SHEET_OCCASIONS);
     print_counts("sheet", NO_DISC, sheet_occasions, SHEET_OCCASIONS);
 }

@@ -11,7 +11,7 @@
 
 enum call {
     CALL_CHECK, CALL_LIST, CALL_READ, CALL_SAVE, CALL_DELETE, CALL_RENAME,
-    CALL_PROTECT, CALL_REPLAY, CALL_BLANK, CALL_VIEW, CALLS
+    CALL_PROTECT, CALL_REPLAY, CALL_REPAIR, CALL_BLANK, CALL_VIEW, CALLS
 };
 
 /* Counts an answer, for each kind of disc and each way to state none; one that
@@ -68,6 +68,58 @@ enum list_occasion {
 
 /* What is stated is a kind of disc. */
 void count_list_occasion(struct stated stated, enum list_occasion occasion);
+
+/* What has to occur with repairs, for each kind of disc. */
+enum repair_occasion {
+    REPAIR_RULE_1, /* 3: this rule is broken */
+    REPAIR_RULE_2,
+    REPAIR_RULE_3,
+    REPAIR_RULE_4,
+    REPAIR_RULE_5,
+    REPAIR_RULE_6, /* 0: this rule is broken, and holds afterwards */
+    REPAIR_RULE_7,
+    REPAIR_RULE_8,
+    REPAIR_KEEPS,     /* 0: a sound disc, and nothing changes */
+    REPAIR_ORDERS,    /* 0: a sound disc whose free chain is threaded anew */
+    REPAIR_NONE,      /* 0: no sector is free */
+    REPAIR_ONE,       /* 0: one sector is free */
+    REPAIR_FREE_WORD, /* 0: the free count takes two bytes */
+    REPAIR_USED_WORD, /* 0: the used count takes two bytes */
+    REPAIR_GROWN,     /* 0: a directory of more than one sector */
+    REPAIR_OCCASIONS
+};
+
+/* What is stated is a kind of disc. */
+void count_repair_occasion(struct stated stated,
+                           enum repair_occasion occasion);
+
+/* What has to occur with cuts: where the list of a command is cut, and what
+ * comes between the cut and the repair. The cuts of a command other than save
+ * follow one another by the number of writes made. */
+enum cut_occasion {
+    CUT_SAVE_NONE,     /* no write is made */
+    CUT_SAVE_SYSTEM,   /* that of the system sector alone */
+    CUT_SAVE_FILE,     /* some of the file's sectors, or all where two more
+                          writes follow */
+    CUT_SAVE_NO_ENTRY, /* all but the directory sector's */
+    CUT_SAVE_UNLINKED, /* all but that which links to a new directory sector */
+    CUT_SAVE_WHOLE,    /* all */
+    CUT_DELETE_NONE,
+    CUT_DELETE_ENTRY,
+    CUT_DELETE_LAST,
+    CUT_DELETE_WHOLE,
+    CUT_RENAME_NONE,
+    CUT_RENAME_WHOLE,
+    CUT_PROTECT_NONE,
+    CUT_PROTECT_WHOLE,
+    CUT_GOES_ON,  /* an accepted command before the repair */
+    CUT_REFUSED,  /* a command that is refused with 3 before the repair */
+    CUT_REPAIRED, /* the repair of the card itself */
+    CUT_OCCASIONS
+};
+
+/* What is stated is a kind of disc. */
+void count_cut_occasion(struct stated stated, enum cut_occasion occasion);
 
 /* Counts an answer of the call that adds a sheet up, which is on no disc. */
 void count_sheet_answer(uint32_t number);

@@ -2,6 +2,8 @@
 
 #include <string.h>
 
+#include "places.h"
+
 static int is_legal(uint8_t byte)
 {
     return (byte >= 'A' && byte <= 'Z') || (byte >= '0' && byte <= '9');
@@ -41,6 +43,25 @@ int store_name(struct text typed, uint8_t *stored)
 int store_disc_name(struct text typed, uint8_t *stored)
 {
     return store_part(typed.bytes, typed.length, TANDOS_NAME_SIZE, stored);
+}
+
+/* Legal bytes, at least so many, then spaces. */
+static int is_padded(const uint8_t *part, size_t least, size_t width)
+{
+    size_t length = 0;
+    size_t i;
+
+    while (length < width && is_legal(part[length]))
+        length++;
+    for (i = length; i < width; i++)
+        if (part[i] != ' ')
+            return 0;
+    return length >= least;
+}
+
+int is_stored_name(const uint8_t *stored)
+{
+    return is_padded(stored, 1, 6) && is_padded(stored + 6, 0, 3);
 }
 
 size_t need(const struct state *state, size_t sheet_length)

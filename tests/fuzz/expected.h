@@ -11,6 +11,9 @@
 int store_name(struct text typed, uint8_t *stored);
 int store_disc_name(struct text typed, uint8_t *stored);
 
+/* 0 if no typed file name is stored as these nine bytes. */
+int is_stored_name(const uint8_t *stored);
+
 /* The sectors that a save needs, the directory's counted, and the length of its
  * list of writes. */
 size_t need(const struct state *state, size_t sheet_length);

@@ -29,6 +29,9 @@ enum command {
     COMMAND_RENAME,  /* old name, new name, buffer */
     COMMAND_PROTECT, /* name, number, buffer */
     COMMAND_REPLAY,  /* list of writes */
+    COMMAND_REPAIR,
+    COMMAND_CUT,     /* writes (2), cut command, its arguments: the card is
+                        pulled after so many of the command's writes */
     COMMAND_BLANK,   /* name */
     COMMAND_VIEW,    /* track number, sector number */
     COMMAND_TEXT,    /* number */
@@ -39,6 +42,11 @@ enum command {
     COMMAND_RESIZE,  /* length (3): cuts or prolongs the image */
     COMMAND_STATED,  /* stated, any command above: stated for it alone */
     COMMANDS
+};
+
+/* The commands that can be cut, by the remainder: those that give a list. */
+enum cut_command {
+    CUT_SAVE, CUT_DELETE, CUT_RENAME, CUT_PROTECT, CUT_COMMANDS
 };
 
 /* What is stated begins with a byte: one of the kinds of disc, by its

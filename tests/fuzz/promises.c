@@ -232,6 +232,12 @@ void require_protected(const struct moment *before, const struct moment *after,
         require_refused(after, name);
 }
 
+void require_same_state(const struct state *one, const struct state *other)
+{
+    require_others_kept(one, NONE, other, NONE);
+    require_counts(other, one->free_sectors, one->directory_sectors);
+}
+
 void require_blank_bytes(const struct image *image, const uint8_t *stored)
 {
     static struct image expected;

@@ -24,6 +24,11 @@ void require_renamed(const struct moment *before, const struct moment *after,
                      struct text writes);
 void require_protected(const struct moment *before, const struct moment *after,
                        struct text name, uint32_t on, struct text writes);
+
+/* The same files, counts and disc name, as after a repair that counts as no
+ * change. */
+void require_same_state(const struct state *one, const struct state *other);
+
 void require_blank(const struct moment *after, struct text name);
 
 /* The list, replayed on the one image, gives exactly the other. */

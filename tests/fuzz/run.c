@@ -6,6 +6,8 @@
 #include "expected.h"
 #include "finding.h"
 #include "promises.h"
+#include "pulled.h"
+#include "repairs.h"
 #include "replays.h"
 #include "sheets.h"
 #include "twins.h"
@@ -21,6 +23,9 @@ static struct moment moments[2];
 static struct moment *const now = &moments[0];
 static struct moment *const before = &moments[1];
 static int is_state_known;
+
+/* The list that the last command gave; none if it was refused. */
+static struct text given;
 
 static void know_state(void)
 {
@@ -61,6 +66,9 @@ static struct listed_change listed_by(tandos_filled filled,
         listed.writes = keep_list(filled.length);
     else if (filled.number == TANDOS_SHORT && buffer_length + 1 == needed)
         count_list_occasion(now->image.stated, SHORT_BY_ONE);
+    if (filled.number == TANDOS_UNSOUND)
+        refuse_promised(now);
+    given = listed.writes;
     return listed;
 }
 
@@ -70,6 +78,7 @@ static void end_command(void)
     copy_state(&before->state, &now->state);
     look(&now->image, &now->state);
     REQUIRE(now->state.is_sound, "an accepted command leaves no sound image");
+    go_on_promised(now);
 }
 
 static void run_list(struct input *input)
@@ -251,8 +260,51 @@ static void run_replay(struct input *input)
     REQUIRE(memcmp(expected.bytes, now->image.bytes, expected.length) == 0,
             "a replay leaves another image");
     twin_replay(change_by(number), writes);
-    if (number == TANDOS_DONE)
+    if (number == TANDOS_DONE) {
+        end_promise();
         end_replay();
+    }
+}
+
+/* A repair counts as no change, and keeps what a cut promised. */
+static void run_repair(struct input *input)
+{
+    (void)input;
+    if (repair(&now->image) != TANDOS_DONE) {
+        REQUIRE(!is_promised(), "the repair of a pulled card is refused");
+        return;
+    }
+    copy_state(&before->state, &now->state);
+    look(&now->image, &now->state);
+    REQUIRE(now->state.is_sound, "a repair leaves no sound image");
+    if (before->state.is_sound)
+        require_same_state(&before->state, &now->state);
+    repair_promised(now);
+}
+
+/* The command is done on the image, with all that is expected of it. Then the
+ * card, which has its first writes alone, is the image. */
+static void run_cut(struct input *input)
+{
+    static void (*const commands[CUT_COMMANDS])(struct input *) = {
+        [CUT_SAVE] = run_save,
+        [CUT_DELETE] = run_delete,
+        [CUT_RENAME] = run_rename,
+        [CUT_PROTECT] = run_protect
+    };
+    size_t writes = take(input, 2);
+    struct cut cut = { (enum cut_command)(take(input, 1) % CUT_COMMANDS),
+                       before, now, { NULL, 0 } };
+
+    commands[cut.command](input);
+    cut.writes = given;
+    if (cut.writes.length == 0)
+        return;
+    pull_card(&now->image, &cut, writes);
+    is_state_known = 0;
+    know_state();
+    if (now->state.is_sound)
+        require_promised(now);
 }
 
 static void run_blank(struct input *input)
@@ -265,6 +317,7 @@ static void run_blank(struct input *input)
     REQUIRE_EQUAL(expected_blank(&now->state, name.text), number, "blank");
     twin_blank(change_by(number), name.text);
     if (number == TANDOS_DONE) {
+        end_promise();
         end_command();
         require_blank(now, name.text);
     }
@@ -307,6 +360,7 @@ static void change_sector(size_t number, size_t byte, const uint8_t *values,
     if (at + count <= now->image.length)
         memcpy(now->image.bytes + at, values, count);
     is_state_known = 0;
+    end_promise();
 }
 
 static void change_system(struct input *input)
@@ -362,6 +416,7 @@ static void resize(struct input *input)
                length - now->image.length);
     now->image.length = length;
     is_state_known = 0;
+    end_promise();
 }
 
 /* Commands that a call does; 0 for a command that is none of them. */
@@ -376,6 +431,8 @@ static int run_call(enum command command, struct input *input)
         [COMMAND_RENAME] = run_rename,
         [COMMAND_PROTECT] = run_protect,
         [COMMAND_REPLAY] = run_replay,
+        [COMMAND_REPAIR] = run_repair,
+        [COMMAND_CUT] = run_cut,
         [COMMAND_BLANK] = run_blank,
         [COMMAND_VIEW] = run_view
     };
@@ -425,6 +482,7 @@ static void run_stated(struct input *input)
 
     now->image.stated = take_stated(input);
     is_state_known = 0;
+    end_promise();
     if (was_sound && is_image(&now->image) &&
         sectors_of(now->image.stated) != sectors_of(of_the_run)) {
         know_state();
@@ -433,6 +491,7 @@ static void run_stated(struct input *input)
     run_command((enum command)(take(input, 1) % COMMAND_STATED), input);
     now->image.stated = of_the_run;
     is_state_known = 0;
+    end_promise();
 }
 
 static void run_next(struct input *input)
@@ -492,6 +551,7 @@ void run_input(struct input *input)
     is_state_known = 0;
     begin_totals();
     begin_lists();
+    end_promise();
     now->image.stated = take_stated(input);
     if (start == START_BLANK)
         start_blank(input);

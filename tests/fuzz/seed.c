@@ -100,6 +100,11 @@ void replay_nothing(void)
     put(COMMAND_REPLAY, WRITES_BYTES, 0, 0, -1);
 }
 
+void repair(void)
+{
+    put(COMMAND_REPAIR, -1);
+}
+
 void save_sectors(int name, int sectors, int more)
 {
     int length = 245 + 253 * (sectors - 1) + more;
@@ -126,6 +131,7 @@ void put_calls(int name)
     put(COMMAND_VIEW, 0, 1, -1);
     replay(0);
     replay_nothing();
+    repair();
     rename_to(name, name + 1);
     protect(name, 1);
     delete(name);

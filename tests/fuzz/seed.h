@@ -41,6 +41,8 @@ void replay(int which);
 /* No bytes, which are no list. */
 void replay_nothing(void);
 
+void repair(void);
+
 /* One file that fills so many sectors, and `more` bytes. */
 void save_sectors(int name, int sectors, int more);
 

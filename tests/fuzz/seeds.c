@@ -8,6 +8,7 @@
 #include <string.h>
 
 #include "seed.h"
+#include "seeds_repairs.h"
 #include "seeds_sheets.h"
 #include "seeds_stated.h"
 #include "seeds_writes.h"
@@ -231,6 +232,7 @@ static void seed_rules(void)
         delete(0);
         rename_to(0, 5);
         protect(0, 1);
+        repair();
         snprintf(name, sizeof name, "rule-%d", rule);
         end(name);
     }
@@ -370,6 +372,7 @@ static void write_seeds(void)
     seed_above_entry();
     seed_views();
     write_writes_seeds();
+    write_repair_seeds();
     write_stated_seeds();
 }
 

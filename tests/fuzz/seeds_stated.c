@@ -49,6 +49,7 @@ static void put_right_calls(struct bytes stated)
     put_listed(stated, COMMAND_PROTECT, bytes_of(0, 1), BUFFER_EXACT);
     put_stated(stated);
     replay(0);
+    put_command(stated, COMMAND_REPAIR, -1, -1);
     put_listed(stated, COMMAND_DELETE, bytes_of(0, -1), BUFFER_EXACT);
     put_command(stated, COMMAND_BLANK, 0, -1);
 }

@@ -5,11 +5,7 @@
 #include "counters.h"
 #include "finding.h"
 #include "places.h"
-
-static size_t word(const uint8_t *bytes)
-{
-    return bytes[0] + 256u * bytes[1];
-}
+#include "rules.h"
 
 uint64_t hash_of(const uint8_t *bytes, size_t length)
 {
@@ -53,15 +49,15 @@ static void take_disc_record(struct state *state, const uint8_t *record)
 {
     REQUIRE_EQUAL(TANDOS_RECORD_DISC, record[0], "kind of the disc's record");
     memcpy(state->disc_name, record + 1, TANDOS_NAME_SIZE);
-    state->free_sectors = word(record + 10);
-    state->used_sectors = word(record + 12);
+    state->free_sectors = word_at(record + 10);
+    state->used_sectors = word_at(record + 12);
 }
 
 static void take_file_record(struct file *file, const uint8_t *record)
 {
     REQUIRE_EQUAL(TANDOS_RECORD_FILE, record[0], "kind of a file's record");
     memcpy(file->name, record + 1, TANDOS_NAME_SIZE);
-    file->sectors = word(record + 10);
+    file->sectors = word_at(record + 10);
     file->attribute = record[12];
     REQUIRE(file->sectors >= 1, "length of a file");
     REQUIRE(file->attribute == TANDOS_ATTRIBUTE_NONE ||
@@ -110,33 +106,33 @@ static void take_reading(struct file *file, const struct lent *lent,
                   "sectors of a plain file");
 }
 
-/* The counts are those of the chains, and every sector is in one place. */
-static void require_sums(struct state *state, const struct image *image)
+/* The counts that are listed are those of the chains. */
+static void require_sums(struct state *state, const struct met *met)
 {
-    struct places places = places_of(image);
+    size_t directory = met->counts[PLACE_DIRECTORY];
     size_t used = 0;
     size_t i;
 
     for (i = 0; i < state->file_count; i++)
         used += state->files[i].sectors;
     REQUIRE_EQUAL(used, state->used_sectors, "used count");
-    REQUIRE_EQUAL(places.files, used, "sectors of the files");
-    REQUIRE_EQUAL(places.free, state->free_sectors, "free count");
-    REQUIRE_EQUAL(image->length / TANDOS_SECTOR_SIZE,
-                  1 + places.free + places.files + places.directory,
-                  "sectors of the system, the directory, files and free");
-    REQUIRE(state->file_count <= SLOTS_PER_DIRECTORY_SECTOR * places.directory,
+    REQUIRE_EQUAL(met->counts[PLACE_FILE], used, "sectors of the files");
+    REQUIRE_EQUAL(met->counts[PLACE_FREE], state->free_sectors, "free count");
+    REQUIRE(state->file_count <= SLOTS_PER_DIRECTORY_SECTOR * directory,
             "more files than slots");
-    state->directory_sectors = places.directory;
+    state->directory_sectors = directory;
 }
 
 static void take_check(struct state *state, const struct image *image,
-                       const struct lent *lent)
+                       const struct lent *lent, struct met *met)
 {
     state->is_image = is_image(image);
     state->checked = call_check(lent, image->stated);
     REQUIRE_EQUAL(state->is_image ? TANDOS_DONE : TANDOS_SIZE,
                   state->checked.number, "number of a check");
+    if (state->is_image)
+        REQUIRE_EQUAL(broken_rule(image, met), state->checked.rule,
+                      "rule that a check reports");
     state->is_sound = state->is_image && state->checked.rule == 0;
     if (!state->is_image && kind_of(image->stated) < DISC_KINDS &&
         is_length(image->length, other_sectors(image->stated)))
@@ -159,15 +155,16 @@ static void count_sound(const struct image *image, const struct state *state)
 
 void look(const struct image *image, struct state *state)
 {
+    static struct met met;
     struct lent lent = lend(image->bytes, image->length);
     size_t i;
 
-    take_check(state, image, &lent);
+    take_check(state, image, &lent, &met);
     state->directory_sectors = 0;
     state->file_count = 0;
     if (state->is_sound) {
         take_list(state, &lent, image->stated);
-        require_sums(state, image);
+        require_sums(state, &met);
         for (i = 0; i < state->file_count; i++)
             take_reading(&state->files[i], &lent, image->stated);
         count_sound(image, state);

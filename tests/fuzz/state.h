@@ -4,8 +4,6 @@
 
 #include "calls.h"
 
-#define SLOTS_PER_DIRECTORY_SECTOR 15
-
 struct file {
     uint8_t name[TANDOS_NAME_SIZE];
     size_t sectors;

@@ -170,6 +170,12 @@ void twin_replay(struct change change, struct text writes)
         end_writing(change, call_replay(&twin, writes));
 }
 
+void twin_repair(struct change change)
+{
+    if (begin_twin(change.before))
+        end_writing(change, call_repair(&twin));
+}
+
 void twin_blank(struct change change, struct text name)
 {
     if (begin_twin(change.before))

@@ -47,6 +47,7 @@ void twin_rename(struct listed_change listed, struct text old_name,
                  struct text new_name);
 void twin_protect(struct listed_change listed, struct text name, uint32_t on);
 void twin_replay(struct change change, struct text writes);
+void twin_repair(struct change change);
 void twin_blank(struct change change, struct text name);
 
 #endif

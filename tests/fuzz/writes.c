@@ -19,8 +19,6 @@
 static uint8_t made[WRITE_LENGTH * LIST_RECORDS_MOST + 1];
 static size_t made_length;
 
-static const struct link system_link = { 0, 1 };
-
 /* The sector as it stands in the image. */
 static void put_write(const struct image *image, struct link link)
 {

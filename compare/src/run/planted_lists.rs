@@ -385,7 +385,7 @@ macro_rules! replayed {
     };
 }
 
-fn failures(writing: Writing) -> u64 {
+pub fn failures(writing: Writing) -> u64 {
     let mut driver = Driver {
         writing,
         ..Driver::new(SEED, false)
@@ -404,6 +404,7 @@ fn the_right_calls_pass() {
     let writing = Writing {
         change: listed!(Right)[0].1.change,
         replay: replayed!(Right)[0].1.replay,
+        ..OF_LIBRARY
     };
     assert_eq!(failures(writing), 0);
 }

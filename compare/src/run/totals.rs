@@ -1,7 +1,7 @@
 //! Runs of the weekly totals: sheets handed on with one table, in two orders,
 //! some by way of a disc, and single calls to which refusals apply.
 
-use super::{Driver, Place};
+use super::{Asked, Driver, Place};
 use crate::difference::describe_adding;
 use crate::discs;
 use crate::kind::Kind;
@@ -145,7 +145,8 @@ impl Driver {
     ) -> Option<Vec<u8>> {
         let name = format!("S{}", place.command).into_bytes();
         let save = save(random, &name, sheet);
-        if !self.step(random, disc, &save, None, place)?.accepted() {
+        let save = Asked::whole(&save);
+        if !self.step(random, disc, save, place)?.accepted() {
             return Some(sheet.to_vec());
         }
         let buffer = Buffer {
@@ -153,7 +154,7 @@ impl Driver {
             fill: random.byte(),
         };
         let read = Command::Read { name, buffer };
-        match self.step(random, disc, &read, None, place)? {
+        match self.step(random, disc, Asked::whole(&read), place)? {
             Answer::Read(reading, buffer)
                 if buffer.get(..reading.length as usize) == Some(sheet) =>
             {

@@ -86,7 +86,8 @@ impl Tally {
             self.after_last
         )?;
         writeln!(out, "moments of demand 3 checked: {}", self.moments)?;
-        self.lists.write(out)
+        self.lists.write(out)?;
+        self.repairs.write(out)
     }
 }
 

@@ -1,5 +1,5 @@
 pub mod Meaning
-pub mod Passing
+pub mod Free
 pub mod Zeros
 pub mod Links
 pub mod Laws

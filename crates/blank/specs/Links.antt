@@ -1,106 +1,37 @@
 -- The links of a blank disc's free chain, one after the other, as the loop that writes them meets them.
 -- Assumes nothing.
 use mathlib.Core.Path.{_≡_, refl, sym, ap, ap₂, subst, _∙_}
-use Prim.Native.Nat.{ℕ, zero, suc, _+_, _*_, _/_, _%_, _-_, _≤_, _<_}
+use Prim.Native.Nat.{ℕ, zero, suc, _+_, _*_, _%_, _-_, _≤_, _<_}
 use native.Mathlib.Omega.{arith}
 use native.Mathlib.Numerals.{add-one}
-use native.Mathlib.Nat.{mod-lt, mul-suc, mul-le-mul, mul-le-mul-left, mul-add-div, div-eq-of-lt, div-add-mod}
 use mathlib.Core.Bool.{true, not, false≢true}
 use mathlib.Core.List.{List, [], _∷_, _++_}
 use lib.ListN.{length, getD, set, drop, replicate, length-drop, drop-of-length-le}
 use lib.Seq.{drop-cons, getD-drop}
 use Rattle.format.specs.Lists.{elem}
 use Rattle.format.specs.ListLaws.{All, all-getD, filter-all}
-use Rattle.format.specs.Geometry.{Disc, sector, sectors, sectorNumber, onDisc, stop, go, Write, written}
-use Rattle.format.specs.GeometryLaws.{length-cut, on-disc, track-range, track-back, sector-back}
-use Rattle.format.specs.Formats.{order-long, order-range}
-use Rattle.format.specs.Layout.{linkBytes, trackByte, sectorByte}
+use Rattle.format.specs.Geometry.{Disc, sector, sectors, sectorNumber, onDisc, Write, written}
+use Rattle.format.specs.GeometryLaws.{length-cut, on-disc}
+use Rattle.format.specs.Layout.{linkBytes}
 use Rattle.format.specs.Effects.{body, headOf, chained, passing, blankDirectory, blankFree}
-use Rattle.disc.specs.Meaning.{form, geo, sectorsOf, Valid, Stop}
-use Rattle.disc.specs.Laws.{good, number-on, stop-sector}
+use Rattle.disc.specs.Meaning.{form, geo, sectorsOf, Valid}
+use Rattle.disc.specs.Laws.{good}
 use Rattle.disc.specs.declared.Geometry.{Geometry}
 use Rattle.disc.specs.declared.Place.{Place}
-use Rattle.blank.specs.Meaning.{Passed, Bare}
+use Rattle.passing.specs.Meaning.{Stop, Passed}
+use Rattle.passing.specs.Places.{passing-as-long, place-high, track-inside, stop-number}
+use Rattle.blank.specs.Meaning.{Bare}
 use Rattle.blank.specs.Zeros.{bare-set}
-use Rattle.blank.specs.Passing.{passing-at, passing-long, blank-free}
+use Rattle.blank.specs.Free.{blank-free}
 
 -- the writes of the chain from place k on
 unfoldable pub linksFrom : Geometry → ℕ → List Write
 linksFrom g k = chained (geo g) (drop k (passing (geo g))) (replicate (g .sectors - k) (replicate 254 0))
 
 module _ {g : Geometry} (v : Valid g) where
-  passing-as-long : length (passing (geo g)) ≡ g .sectors
-  passing-as-long = passing-long (geo g) (v .some-on-track) (order-long (good v)) ∙ sym (v .total)
-
-  pub many : 9 ≤ g .sectors
-  many = omega (arith, mul-le-mul (v .nine-on-track) (v .some-track), v .total)
-
   -- 0/4, the directory, is on the disc
   pub directory-on : onDisc (geo g) 0 4 ≡ true
   directory-on = on-disc (geo g) 0 4 (v .some-track) (omega arith) (omega (arith, v .nine-on-track))
-
-  -- the sector at a place of the order
-  on-track : (k : ℕ) → (1 ≤ getD (geo g .order) (k % geo g .perTrack) 0) × (getD (geo g .order) (k % geo g .perTrack) 0 ≤ geo g .perTrack)
-  on-track k = order-range (good v) (k % geo g .perTrack) (mod-lt k (v .some-on-track))
-
-  -- ---- the sector at place k
-
-  pub place-on : (k : ℕ) → k < g .sectors → onDisc (geo g) (k / geo g .perTrack) (getD (geo g .order) (k % geo g .perTrack) 0) ≡ true
-  place-on k h =
-      on-disc (geo g) _ _ (track-range (geo g) (v .some-on-track) k (omega (arith, v .total))) (on-track k .0) (on-track k .1)
-
-  pub place-is : (k : ℕ) → k < g .sectors → getD (passing (geo g)) k 0 ≡ sectorNumber (geo g) (k / geo g .perTrack) (getD (geo g .order) (k % geo g .perTrack) 0)
-  place-is k h = passing-at (geo g) (v .some-on-track) (order-long (good v)) k (omega (arith, v .total))
-
-  pub next-go : (k : ℕ) → k < g .sectors → headOf (drop k (passing (geo g))) ≡ go (getD (passing (geo g)) k 0)
-  next-go k h = ap headOf (drop-cons (passing (geo g)) k 0 (omega (arith, passing-as-long)))
-
-  pub next-end : (k : ℕ) → g .sectors ≤ k → headOf (drop k (passing (geo g))) ≡ stop
-  next-end k h = let past : length (passing (geo g)) ≤ k = omega (arith, passing-as-long) in ap headOf (drop-of-length-le (passing (geo g)) past)
-
-  -- ---- place i of a track
-
-  pub next-track : (track : ℕ) → geo g .perTrack * (track + 1) ≡ geo g .perTrack * track + geo g .perTrack
-  next-track track = ap (λ (q : ℕ). geo g .perTrack * q) (add-one track) ∙ omega (arith, mul-suc (geo g .perTrack) track)
-
-  module _ (track i : ℕ) (on : track < g .tracks) (h : i < geo g .perTrack) where
-    pub track-inside : geo g .perTrack * track + i < g .sectors
-    track-inside = omega (arith, v .total, mul-le-mul-left (geo g .perTrack) on, mul-suc (geo g .perTrack) track)
-
-    pub track-of : (geo g .perTrack * track + i) / geo g .perTrack ≡ track
-    track-of = mul-add-div (v .some-on-track) track i ∙ ap (λ (q : ℕ). track + q) (div-eq-of-lt h) ∙ omega arith
-
-    pub place-of-track : (geo g .perTrack * track + i) % geo g .perTrack ≡ i
-    place-of-track =
-        let e : geo g .perTrack * ((geo g .perTrack * track + i) / geo g .perTrack) ≡ geo g .perTrack * track = ap (λ (q : ℕ). geo g .perTrack * q) track-of in
-        omega (arith, div-add-mod (geo g .perTrack * track + i) (geo g .perTrack))
-
-  -- ---- its sector, and its track and sector as bytes
-
-  module _ (track i : ℕ) (on : track < g .tracks) (h : i < geo g .perTrack) where
-    pub at-place : getD (passing (geo g)) (geo g .perTrack * track + i) 0 ≡ sectorNumber (geo g) track (getD (geo g .order) i 0)
-    at-place =
-        place-is _ (track-inside track i on h)
-        ∙ ap₂ (λ (t j : ℕ). sectorNumber (geo g) t (getD (geo g .order) j 0)) (track-of track i on h) (place-of-track track i on h)
-
-    pub passed-here : (r : Place) → r .track ≡ track → r .sector ≡ getD (geo g .order) i 0 → Passed g (geo g .perTrack * track + i) r
-    passed-here r e f =
-        let w = order-range (good v) i h in
-        let is = next-go _ (track-inside track i on h) ∙ ap go at-place in
-        record {
-          track-is = e ∙ sym (ap (trackByte (geo g)) is ∙ track-back (geo g) (v .some-on-track) _ _ (w .0) (w .1));
-          sector-is = f ∙ sym (ap (sectorByte (geo g)) is ∙ sector-back (geo g) (v .some-on-track) _ _ (w .0) (w .1));
-        }
-
-  -- the first sector of a track
-  pub passed-first : (track : ℕ) → track < g .tracks → (r : Place) → r .track ≡ track → r .sector ≡ getD (geo g .order) 0 0
-      → Passed g (geo g .perTrack * track) r
-  passed-first track on r e f =
-      let begin : geo g .perTrack * track + 0 ≡ geo g .perTrack * track = omega arith in
-      subst (λ (k : ℕ). Passed g k r) begin (passed-here track 0 on (v .some-on-track) r e f)
-
-  pub passed-none : (k : ℕ) → g .sectors ≤ k → (r : Place) → r .track ≡ 0 → r .sector ≡ 0 → Passed g k r
-  passed-none k h r e f = record { track-is = e ∙ sym (ap (trackByte (geo g)) (next-end k h)); sector-is = f ∙ sym (ap (sectorByte (geo g)) (next-end k h)) }
 
   -- ---- the writes from place k on
 
@@ -109,12 +40,14 @@ module _ {g : Geometry} (v : Valid g) where
   unfolding linksFrom chained
   links-step k h =
       let left : g .sectors - k ≡ suc (g .sectors - (k + 1)) = omega arith in
-      ap₂ (λ (ns : List ℕ) (n : ℕ). chained (geo g) ns (replicate n (replicate 254 0))) (drop-cons (passing (geo g)) k 0 (omega (arith, passing-as-long)) ∙ ap (λ (j : ℕ). getD (passing (geo g)) k 0 ∷ drop j (passing (geo g))) (sym (add-one k))) left
+      let here = drop-cons (passing (geo g)) k 0 (omega (arith, passing-as-long v)) in
+      let next = here ∙ ap (λ (j : ℕ). getD (passing (geo g)) k 0 ∷ drop j (passing (geo g))) (sym (add-one k)) in
+      ap₂ (λ (ns : List ℕ) (n : ℕ). chained (geo g) ns (replicate n (replicate 254 0))) next left
 
   pub links-end : (k : ℕ) → g .sectors ≤ k → linksFrom g k ≡ []
   unfolding linksFrom chained
   links-end k h =
-      let past : length (passing (geo g)) ≤ k = omega (arith, passing-as-long) in
+      let past : length (passing (geo g)) ≤ k = omega (arith, passing-as-long v) in
       ap (λ (ns : List ℕ). chained (geo g) ns (replicate (g .sectors - k) (replicate 254 0))) (drop-of-length-le (passing (geo g)) past)
 
   pub free-is : blankFree (geo g) ≡ drop 2 (passing (geo g))
@@ -125,16 +58,13 @@ module _ {g : Geometry} (v : Valid g) where
   links-whole =
       ap₂ (λ (ns : List ℕ) (n : ℕ). chained (geo g) ns (replicate (n - 2) (replicate 254 0))) (sym free-is) (v .total)
 
-  pub place-high : (k : ℕ) → k < g .sectors → getD (passing (geo g)) k 0 < g .sectors
-  place-high k h = subst (λ (n : ℕ). n < g .sectors) (sym (place-is k h)) (number-on v (k / geo g .perTrack) (getD (geo g .order) (k % geo g .perTrack) 0) (place-on k h))
-
   -- the sectors after the first two places are not 0/1
   pub place-low : (k : ℕ) → 2 ≤ k → k < g .sectors → 0 < getD (passing (geo g)) k 0
   unfolding blankFree
   place-low k low high =
       let j : ℕ = k - 2 in
       let e : 2 + j ≡ k = omega arith in
-      let long : length (drop 2 (passing (geo g))) ≡ g .sectors - 2 = length-drop 2 (passing (geo g)) ∙ ap (λ (n : ℕ). n - 2) passing-as-long in
+      let long : length (drop 2 (passing (geo g))) ≡ g .sectors - 2 = length-drop 2 (passing (geo g)) ∙ ap (λ (n : ℕ). n - 2) (passing-as-long v) in
       let kept = all-getD {P = λ n. not (elem n (0 ∷ blankDirectory (geo g) ∷ [])) ≡ true} j 0 (subst (All (λ n. not (elem n (0 ∷ blankDirectory (geo g) ∷ [])) ≡ true)) free-is (filter-all (λ n. not (elem n (0 ∷ blankDirectory (geo g) ∷ []))) (passing (geo g)))) (omega (arith, long)) in
       not-system (getD (passing (geo g)) k 0) (subst (λ (n : ℕ). not (elem n (0 ∷ blankDirectory (geo g) ∷ [])) ≡ true) (getD-drop 2 (passing (geo g)) j 0 ∙ ap (λ (n : ℕ). getD (passing (geo g)) n 0) e) kept)
     where
@@ -154,31 +84,24 @@ pub linked-more : {g : Geometry} {k m n : ℕ} {x y z : List ℕ} → Linked g k
 linked-more a b = record { bare = b .bare; links = b .links ∙ a .links }
 
 -- the link of the sector at place i of a track, which the code has as a stop
-module _ {g : Geometry} (v : Valid g) (track i : ℕ) (on : track < g .tracks) (h : i < geo g .perTrack) (stop : ℕ) (is : Stop g (getD (geo g .order) i 0) stop) where
+module _ {g : Geometry} (v : Valid g) (track i : ℕ) (on : track < g .tracks) (h : i < geo g .perTrack)
+    (stop : ℕ) (is : Stop g (getD (geo g .order) i 0) stop) where
   abbrev k : ℕ
   k = geo g .perTrack * track + i
-
-  sector-is : stop % 256 ≡ getD (geo g .order) i 0
-  sector-is = stop-sector v _ stop is
-
-  number-is : sectorNumber (geo g) track (stop % 256) ≡ getD (passing (geo g)) k 0
-  number-is = ap (sectorNumber (geo g) track) sector-is ∙ sym (at-place v track i on h)
-
-  pub here-stop : Stop g (stop % 256) stop
-  here-stop = subst (λ (s : ℕ). Stop g s stop) (sym sector-is) is
 
   pub here-bare : 2 ≤ k → (x : List ℕ) → Bare (sectorsOf g x) → body (sector (sectorsOf g x) (sectorNumber (geo g) track (stop % 256))) ≡ replicate 254 0
   here-bare low x z =
       let inside = track-inside v track i on h in
-      z .zeros _ (omega (arith, number-is, place-low v k low inside))
-      (omega (arith, number-is, place-high v k inside, length-cut (form g) (geo g) x, v .total))
+      z .zeros _ (omega (arith, stop-number v track i on h stop is, place-low v k low inside))
+      (omega (arith, stop-number v track i on h stop is, place-high v k inside, length-cut (form g) (geo g) x, v .total))
 
   pub linked-here : (m : ℕ) → m ≡ k + 1 → (r : Place) → Passed g m r → (x y : List ℕ) → Bare (sectorsOf g x)
       → sectorsOf g y ≡ set (sectorsOf g x) (sectorNumber (geo g) track (stop % 256)) (r .track ∷ r .sector ∷ replicate 254 0) → Linked g k m x y
   linked-here m next r p x y z e =
       let d : Disc = sectorsOf g x in
       let stored : ℕ → ℕ → ℕ → Disc = λ n t b. set d n (t ∷ b ∷ replicate 254 0) in
-      let as-passed = e ∙ ap (λ (n : ℕ). stored n (r .track) (r .sector)) number-is ∙ ap₂ (stored (getD (passing (geo g)) k 0)) (p .track-is) (p .sector-is) in
+      let as-passed = e ∙ ap (λ (n : ℕ). stored n (r .track) (r .sector)) (stop-number v track i on h stop is)
+      ∙ ap₂ (stored (getD (passing (geo g)) k 0)) (p .track-is) (p .sector-is) in
       let step = links-step v k (track-inside v track i on h)
       ∙ ap (λ (j : ℕ). record { at = getD (passing (geo g)) k 0; bytes = linkBytes (geo g) (headOf (drop j (passing (geo g)))) ++ replicate 254 0 } ∷ linksFrom g j) (sym next) in
       record {

@@ -1,19 +1,10 @@
--- What the code of the blank disc goes by: the sector at a place of the passing order, and sectors of zeros.
+-- Sectors of zeros, into which the code of the blank disc writes.
 -- Assumes nothing.
 use mathlib.Core.Path.{_≡_}
 use Prim.Native.Nat.{ℕ, _<_}
-use lib.ListN.{length, drop, replicate}
+use lib.ListN.{length, replicate}
 use Rattle.format.specs.Geometry.{Disc, sector}
-use Rattle.format.specs.Layout.{trackByte, sectorByte}
-use Rattle.format.specs.Effects.{body, headOf, passing}
-use Rattle.disc.specs.Meaning.{geo}
-use Rattle.disc.specs.declared.Geometry.{Geometry}
-use Rattle.disc.specs.declared.Place.{Place}
-
--- track and sector byte of what stands at place k of the passing order: of a sector, or zeros after the last
-pub record Passed (g : Geometry) (k : ℕ) (r : Place) : Type 0 where
-  pub track-is : r .track ≡ trackByte (geo g) (headOf (drop k (passing (geo g))))
-  pub sector-is : r .sector ≡ sectorByte (geo g) (headOf (drop k (passing (geo g))))
+use Rattle.format.specs.Effects.{body}
 
 -- every sector but 0/1 has zeros after its link
 pub record Bare (d : Disc) : Type 0 where

@@ -11,11 +11,12 @@ ghost use Prim.Native.Nat.{_+_, _*_, _%_, _-_, _≤_, _<_};
 ghost use mathlib.Core.List.{_∷_, _++_};
 ghost use lib.ListN.{length, set, replicate};
 ghost use Rattle.format.specs.Geometry.{sectors, sectorNumber, go, sector, written};
-ghost use Rattle.format.specs.Layout.{pairBytes};
-ghost use Rattle.format.specs.Effects.{body, headOf, chained, blankDirectory, blankFree, blankSystem, blankDisc};
+ghost use Rattle.format.specs.Layout.{versionPlace, pairBytes};
+ghost use Rattle.format.specs.Effects.{body, headOf, chained, version, blankDirectory, blankFree, blankSystem, blankDisc};
 ghost use Rattle.format.specs.Calls.{answered, afterBlank};
-ghost use Rattle.disc.specs.Meaning.{kindOf, geo, sectorsOf, Valid, Image, Stop, Stops};
-ghost use Rattle.blank.specs.Meaning.{Passed, Bare};
+ghost use Rattle.disc.specs.Meaning.{kindOf, geo, sectorsOf, storedAt, Valid, Image};
+ghost use Rattle.passing.specs.Meaning.{Stop, Stops, Passed};
+ghost use Rattle.blank.specs.Meaning.{Bare};
 ghost use Rattle.blank.specs.Links.{Linked};
 
 // 0/1 and 0/4, which the chain passes first, are taken.
@@ -41,7 +42,7 @@ fn link_to(image: &mut [u8], g: Geometry, track: usize, from: u16, to: Place)
         set (sectorsOf g (now (image .entry))) (sectorNumber (geo g) track (from % 256)) (to .track ∷ to .sector ∷ replicate 254 0) ⌝ }
 {
     let link = [to.track, to.sector];
-    disc::put_in(image, g, disc::stop_on(g, track, from), 0, &link);
+    disc::put_in(image, g, passing::stop_on(g, track, from), 0, &link);
 }
 
 // What the chain passes after a track: the first sector of the next one, or nothing.
@@ -52,7 +53,7 @@ fn after_track(g: Geometry, stops: &[u16], track: usize) -> Place
     if track + 1 < g.tracks {
         return Place {
             track: (track + 1) as u8,
-            sector: disc::sector_of_stop(stops[0]),
+            sector: passing::sector_of_stop(stops[0]),
         };
     }
     disc::NOWHERE
@@ -70,7 +71,7 @@ fn put_track(image: &mut [u8], g: Geometry, stops: &[u16], track: usize, first: 
         let next = stops[i + 1];
         let to = Place {
             track: track as u8,
-            sector: disc::sector_of_stop(next),
+            sector: passing::sector_of_stop(next),
         };
         link_to(image, g, track, here, to);
         here = next;
@@ -99,11 +100,19 @@ fn pointers(g: Geometry, stops: &[u16]) -> [u8; 4]
 {
     let directory = disc::place_of(g, Link::To(disc::number_of(g, 0, 4)));
     [
-        disc::sector_of_stop(stops[TAKEN]),
+        passing::sector_of_stop(stops[TAKEN]),
         0,
         directory.sector,
         directory.track,
     ]
+}
+
+// Writes the version into the system sector.
+fn put_version(image: &mut [u8], g: Geometry)
+    requires { ⌜ Image g (now image) ⌝ }
+    ensures { λ _. ⌜ sectorsOf g (now (image .exit)) ≡ storedAt (sectorsOf g (now (image .entry))) 0 versionPlace version ⌝ }
+{
+    disc::put(image, g, SYSTEM, 0x40, b"TANDOS 65 IMAGE 1");
 }
 
 // Writes the system sector of a blank disc over zeros.
@@ -118,7 +127,7 @@ fn put_system(image: &mut [u8], g: Geometry, stops: &[u16], name: Name)
     disc::put(image, g, SYSTEM, 0x14, &counts);
     let nine = name.bytes;
     disc::put(image, g, SYSTEM, 0x18, &nine);
-    disc::put_version(image, g);
+    put_version(image, g);
 }
 
 // Makes the whole image a blank disc.
@@ -126,7 +135,7 @@ fn blank_on(image: &mut [u8], g: Geometry, name: Name)
     requires { ⌜ Image g (now image) ⌝ }
     ensures { λ _. ⌜ sectorsOf g (now (image .exit)) ≡ blankDisc (geo g) (name .bytes) ⌝ }
 {
-    let stops = disc::stops(g);
+    let stops = passing::stops(g);
     clear(image);
     put_system(image, g, &stops, name);
     put_chain(image, g, &stops);

@@ -7,7 +7,7 @@ use mathlib.Core.Logic.{_≢_}
 use native.Mathlib.Decide.{decLe, ℕ-discrete}
 use native.Mathlib.Nat.{lt-of-not-le, mul-pos, mul-le-mul}
 use native.Mathlib.Numerals.{add-one}
-use mathlib.Core.Bool.{Bool, true, false, not, _&&_, cond, true≢false}
+use mathlib.Core.Bool.{Bool, true, false, not, _&&_, true≢false}
 use mathlib.Core.List.{List, [], _∷_, append-nil}
 use lib.Dec.{eqb, leb, ltb}
 use lib.ListN.{length, getD, set, drop, drop-of-length-le}
@@ -21,7 +21,7 @@ use Rattle.format.specs.Geometry.{Format, ten, tenMoved, nine, unknown, stated,
 use Rattle.format.specs.Arrangements.{Arranged, index-range}
 use Rattle.format.specs.Formats.{GoodFormat, ten-good, moved-good, nine-good, other-arrangement, other-sectors, nine-moved}
 use Rattle.format.specs.GeometryLaws.{Full, byte-cut, cut-full, flat-cut, place-below, plain-place, no-disc, geometry-ok, geometry-rest, geometry-none, geometry-many, geometry-done, on-disc-is, number-below, track-back, sector-back, OnDisc, pointed-on}
-use Rattle.disc.specs.Meaning.{kindOf, known, wholeTracks, packed, placesOf, placeIn, formed, form, geo, sized, sizedAs, meaning, sectorsOf, Valid, Inside, Image, Starts, Lies, Reaches, Stop}
+use Rattle.disc.specs.Meaning.{kindOf, known, wholeTracks, packed, placesOf, placeIn, formed, form, geo, sized, sizedAs, meaning, sectorsOf, Valid, Inside, Image, Starts, Lies, Reaches}
 use Rattle.disc.specs.declared.Geometry.{Geometry}
 use Rattle.disc.specs.declared.Stated.{Stated}
 use Rattle.disc.specs.declared.Sector.{Sector}
@@ -226,24 +226,13 @@ formed-good : (s a : ℕ) → 9 ≤ s → s ≤ 10 → a ≤ 1 → 10 * a ≤ s 
 unfolding stated ten tenMoved nine
 formed-good = kinds (λ s a. GoodFormat (formed s a)) ten-good moved-good nine-good
 
-formed-order : (s a : ℕ) → 9 ≤ s → s ≤ 10 → a ≤ 1 → 10 * a ≤ s → stated s a .order ≡ cond (eqb s 9) (nine .order) (ten .order)
-unfolding stated ten tenMoved nine
-formed-order = kinds (λ s a. stated s a .order ≡ cond (eqb s 9) (nine .order) (ten .order)) refl refl refl
-
 module _ {g : Geometry} (v : Valid g) where
   -- what holds of every kind of disc holds of the geometry's
-  of-kind : {P : ℕ → ℕ → Type 0} → ((s a : ℕ) → 9 ≤ s → s ≤ 10 → a ≤ 1 → 10 * a ≤ s → P s a) → P (g .«per_track») (g .arrangement)
+  pub of-kind : {P : ℕ → ℕ → Type 0} → ((s a : ℕ) → 9 ≤ s → s ≤ 10 → a ≤ 1 → 10 * a ≤ s → P s a) → P (g .«per_track») (g .arrangement)
   of-kind f = f _ _ (v .nine-on-track) (v .few-on-track) (v .arranged-as) (v .moved-ten)
 
   pub good : GoodFormat (form g)
   good = of-kind formed-good
-
-  -- the two tables of the code
-  pub order-of-nine : g .«per_track» ≡ 9 → geo g .order ≡ nine .order
-  order-of-nine e = rw (eq-eqb (g .«per_track») 9 e) at (of-kind formed-order)
-
-  pub order-of-ten : g .«per_track» ≢ 9 → geo g .order ≡ ten .order
-  order-of-ten e = rw (ne-eqb (g .«per_track») 9 e) at (of-kind formed-order)
 
   -- each sector of a track at one place
   pub each-once : Arranged (form g) (geo g)
@@ -335,10 +324,6 @@ module _ {g : Geometry} (v : Valid g) where
 
   pub lies : (s : Sector) → s .number .0 < g .sectors → Starts g (s .number .0) (s .start) → Lies g s
   lies s on h = record { on = on; at = h .at; fits = h .fits }
-
--- the sector of a stop
-pub stop-sector : {g : Geometry} → Valid g → (s r : ℕ) → Stop g s r → r % 256 ≡ s
-stop-sector v s r h = omega (arith, h .at, h .on-track .1, v .few-on-track)
 
 pub lies-starts : {g : Geometry} {s : Sector} → Lies g s → Starts g (s .number .0) (s .start)
 lies-starts l = record { at = l .at; fits = l .fits }

@@ -5,7 +5,7 @@ use Prim.Native.Nat.{ℕ, suc, _+_, _*_, _/_, _%_, _^_, _≤_, _<_}
 use mathlib.Core.Bool.{Bool, _&&_, cond}
 use lib.Dec.{eqb, leb}
 use mathlib.Core.List.{List, [], _∷_}
-use lib.ListN.{length, getD, set}
+use lib.ListN.{length, set}
 use lib.Seq.{sets}
 use Rattle.format.specs.Refusals.{Try, Refusal, refused, ok}
 use Rattle.format.specs.Geometry as format
@@ -136,13 +136,3 @@ abbrev pub Reaches : Geometry → Step → Type 0
 Reaches g code.the-variants.End = Unit {0}
 Reaches g (code.the-variants.To s) = Lies g s
 Reaches g code.the-variants.Off = Unit {0}
-
--- sector s of a track, and its place there
-pub record Stop (g : Geometry) (s r : ℕ) : Type 0 where
-  pub on-track : (1 ≤ s) × (s ≤ geo g .perTrack)
-  pub at : r ≡ 256 * placeIn (g .arrangement) s + s
-
--- the sectors of a track in the order in which the chain of a blank disc passes them
-pub record Stops (g : Geometry) (xs : List ℕ) : Type 0 where
-  pub long : length xs ≡ 10
-  pub at : (i : ℕ) → i < geo g .perTrack → Stop g (getD (geo g .order) i 0) (getD xs i 0)

@@ -5,12 +5,11 @@
 ghost use mathlib.Core.Path.{_≡_};
 ghost use Prim.Native.Nat.{_+_, _*_, _%_, _≤_, _<_};
 ghost use mathlib.Core.Bool.{true};
-ghost use lib.ListN.{length, getD, set};
+ghost use lib.ListN.{length, set};
 ghost use Rattle.format.specs.Lists.{byte, wordAt};
 ghost use Rattle.format.specs.Geometry.{onDisc, sectorNumber, pointed, sector, trackOf, sectorOf};
-ghost use Rattle.format.specs.Layout.{linkPlace, versionPlace, linkOf, pairAt, trackByte, sectorByte, linkBytes};
-ghost use Rattle.format.specs.Effects.{version};
-ghost use Rattle.disc.specs.Meaning.{known, wholeTracks, geo, placesOf, placeIn, sizedAs, meaning, sectorsOf, storedAt, Valid, Inside, Image, Starts, Lies, led, Reaches, Stop, Stops};
+ghost use Rattle.format.specs.Layout.{linkPlace, linkOf, pairAt, trackByte, sectorByte, linkBytes};
+ghost use Rattle.disc.specs.Meaning.{known, wholeTracks, geo, placesOf, placeIn, sizedAs, meaning, sectorsOf, storedAt, Valid, Inside, Image, Starts, Lies, led, Reaches};
 
 // A sector's number on the disc: not a byte position, and not a pair of track and sector.
 pub struct SectorNo(pub usize);
@@ -40,12 +39,10 @@ pub enum Sized {
 // Sectors of a track, and of a track of the early discs.
 const TEN: usize = 10;
 
-const NINE: usize = 9;
+pub const NINE: usize = 9;
 
 // The sectors of a track in the order in which the chain of a blank disc passes them.
-const ORDER: [u8; 10] = [1, 4, 7, 10, 3, 6, 9, 2, 5, 8];
-
-const ORDER_OF_NINE: [u8; 9] = [1, 4, 7, 2, 5, 8, 3, 6, 9];
+pub const ORDER: [u8; 10] = [1, 4, 7, 10, 3, 6, 9, 2, 5, 8];
 
 // The places of sectors in the order of their numbers.
 const PLAIN_PLACES: u64 = 0x9876543210000;
@@ -143,7 +140,7 @@ pub fn number_of(g: Geometry, track: usize, sector: usize) -> SectorNo
 
 // Where a sector starts on its track. Of the bits shifted down, those above the lowest eight are its place: they stand where 256 times the
 // place has them.
-fn offset_of(g: Geometry, sector: usize) -> usize
+pub fn offset_of(g: Geometry, sector: usize) -> usize
     requires { ⌜ Valid g × (1 ≤ sector) × (sector ≤ 10) ⌝ }
     ensures { λ p. ⌜ (p ≡ 256 * placeIn (g .arrangement) sector) × (p < 2560) ⌝ }
 {
@@ -378,67 +375,4 @@ pub fn put_link(image: &mut [u8], g: Geometry, n: SectorNo, to: Link)
     let place = place_of(g, to);
     let link = [place.track, place.sector];
     put(image, g, n, 0, &link);
-}
-
-// Writes the version of a blank disc into the system sector.
-pub fn put_version(image: &mut [u8], g: Geometry)
-    requires { ⌜ Image g (now image) ⌝ }
-    ensures { λ _. ⌜ sectorsOf g (now (image .exit)) ≡ storedAt (sectorsOf g (now (image .entry))) 0 versionPlace version ⌝ }
-{
-    put(image, g, SectorNo(0), 0x40, b"TANDOS 65 IMAGE 1");
-}
-
-// The sector at place i of the order in which the chain of a blank disc passes a track.
-fn order_at(g: Geometry, i: usize) -> u8
-    requires { ⌜ Valid g × (i < geo g .perTrack) ⌝ }
-    ensures { λ r. ⌜ r ≡ getD (geo g .order) i 0 ⌝ }
-{
-    if g.per_track == NINE {
-        return ORDER_OF_NINE[i];
-    }
-    ORDER[i]
-}
-
-// A stop of a blank disc's chain: a sector of a track by its number there, plus 256 times its place. It is one number so that the loop along
-// the chain takes one load for each link.
-fn stop_at(g: Geometry, i: usize) -> u16
-    requires { ⌜ Valid g × (i < geo g .perTrack) ⌝ }
-    ensures { λ r. ⌜ Stop g (getD (geo g .order) i 0) r ⌝ }
-{
-    let sector = order_at(g, i);
-    offset_of(g, sector as usize) as u16 + sector as u16
-}
-
-// The stops of a track, in the order in which the chain passes them; of nine the last is none.
-pub fn stops(g: Geometry) -> [u16; 10]
-    requires { ⌜ Valid g ⌝ }
-    ensures { λ r. ⌜ Stops g r ⌝ }
-{
-    let mut stops = [0; 10];
-    let mut i: usize = 0;
-    while i < g.per_track {
-        stops[i] = stop_at(g, i);
-        i += 1;
-    }
-    stops
-}
-
-// Its sector's number.
-pub fn sector_of_stop(stop: u16) -> u8
-    ensures { λ r. ⌜ r ≡ stop % 256 ⌝ }
-{
-    (stop % 256) as u8
-}
-
-// Its sector on a track.
-pub fn stop_on(g: Geometry, track: usize, stop: u16) -> Sector
-    requires { ⌜ Valid g × (track < g .tracks) × Stop g (stop % 256) stop ⌝ }
-    ensures { λ r. ⌜ (r .number .0 ≡ sectorNumber (geo g) track (stop % 256)) × Lies g r ⌝ }
-{
-    let number = number_of(g, track, (stop % 256) as usize);
-    let per_track = g.per_track;
-    Sector {
-        number,
-        start: 256 * (per_track * track) + (stop / 256 * 256) as usize,
-    }
 }

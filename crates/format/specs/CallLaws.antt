@@ -1,28 +1,29 @@
--- Laws of Calls: what a call has passed where it is accepted, when a save is refused for room, and what a view shows.
+-- Laws of Calls: what a call has passed where it is accepted, when a save is refused for room and a repair for the files, and what a view shows.
 -- Assumes nothing.
-use mathlib.Core.Path.{_≡_, refl, sym, ap, _∙_}
+use mathlib.Core.Path.{_≡_, refl, sym, ap, ap₂, _∙_}
 use mathlib.Core.Logic.{_↔_, _≢_}
 use Prim.Native.Nat.{ℕ, _≤_, _<_}
 use native.Mathlib.Omega.{arith}
-use mathlib.Core.Bool.{Bool, true, false, not, true≢false}
+use mathlib.Core.Bool.{Bool, true, false, not, _&&_, true≢false}
 use mathlib.Core.Option.{Option, none, some}
 use mathlib.Core.List.{List, [], _∷_}
 use lib.ListN.{length, take, drop}
 use lib.Seq.{drop-drop}
-use lib.Dec.{eqb, ltb}
-use borrow.Author.Tests.{ltb-true, lt-ltb, ltb-false, not-false}
+use lib.Dec.{eqb, ltb, leb}
+use borrow.Author.Tests.{ltb-true, lt-ltb, ltb-false, not-false, le-leb}
 use Rattle.format.specs.ListLaws.{drop-take}
-use Rattle.format.specs.Refusals.{Try, Refusal, ROOM, refused, ok, _>>=_, _>>_, refuse_if_, number, valueOr, IsOk}
+use Rattle.format.specs.Refusals.{Try, Refusal, UNSOUND, ROOM, refused, ok, _>>=_, _>>_, refuse_if_, number, valueOr, IsOk}
 use Rattle.format.specs.RefusalLaws.{ok-is, if-ok, or-ok, then-ok, never-if, never-or}
 use Rattle.format.specs.Geometry.{Format, Geometry, geometry, sectors, sectorNumber, startOf, onDisc, Disc, cut, sector, bytesOf, Write}
 use Rattle.format.specs.Arrangements.{Arranged}
 use Rattle.format.specs.GeometryLaws.{sector-cut}
 use Rattle.format.specs.Names.{stored}
 use Rattle.format.specs.Layout.{namePlace, attributePlace, Slot, attributeOf, isProtected, protectedAs, free, find}
-use Rattle.format.specs.Check.{sound}
+use Rattle.format.specs.Check.{filesHold, broken, sound}
+use Rattle.format.specs.CheckLaws.{RulesTo5, hold-reported, rules-hold, hold-rules}
 use Rattle.format.specs.Modules.{Module, allowed}
-use Rattle.format.specs.Effects.{isSome, body, slotWrite, needed, saveWrites, deleteWrites, reading, listing}
-use Rattle.format.specs.Calls.{listOn, readOn, saveBeforeOn, saveOn, deleteOn, renameOn, protectOn, view, partBy, viewPart}
+use Rattle.format.specs.Effects.{isSome, body, slotWrite, needed, saveWrites, deleteWrites, reading, listing, repairWrites}
+use Rattle.format.specs.Calls.{listOn, readOn, saveBeforeOn, saveOn, deleteOn, renameOn, protectOn, repairOn, view, partBy, viewPart}
 
 none-of : {A : Type 0} (o : Option A) → isSome o ≡ false → o ≡ none
 none-of none e = refl
@@ -164,6 +165,26 @@ pub room-exact : (G : Geometry) (d : Disc) (name : List ℕ) (m : Module)
     → (number (saveOn G d name m) ≡ 8) ↔ (IsOk (saveBeforeOn G d name m) × (length (free G d) < needed G d (length (m .bytes))))
 unfolding saveOn
 room-exact G d name m = last-8 (saveBeforeOn G d name m) (length (free G d)) (needed G d (length (m .bytes))) (λ nine. saveWrites G d nine m) (never-8 G d name m)
+
+-- ---- when a repair is refused
+
+module _ (G : Geometry) (d : Disc) where
+  pub repair-done : RulesTo5 G d → repairOn G d ≡ ok (repairWrites G d)
+  unfolding repairOn refuse_if_ _>>_
+  repair-done r = rw (rules-hold G d r)
+
+  -- where the check reports one of rules 1 to 5
+  pub repair-refused : (k : ℕ) → k ≡ broken G d → 0 < k → k ≤ 5 → repairOn G d ≡ refused UNSOUND
+  unfolding repairOn refuse_if_ _>>_
+  repair-refused k e low few =
+      let reported = hold-reported G d ∙ ap (λ (j : ℕ). not (leb 1 j && leb j 5)) (sym e) in
+      let fails : filesHold G d ≡ false = reported ∙ ap₂ (λ (a b : Bool). not (a && b)) (le-leb 1 k low) (le-leb k 5 few) in
+      rw fails
+
+  -- what an accepted one has passed, and writes
+  pub repair-ok : (ws : List Write) → repairOn G d ≡ ok ws → RulesTo5 G d × (repairWrites G d ≡ ws)
+  unfolding repairOn
+  repair-ok ws p = let a = if-ok _ _ _ p in (hold-rules G d (not-false _ (a .0)), ok-is (a .1))
 
 -- ---- what a view shows
 

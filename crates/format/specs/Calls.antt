@@ -1,5 +1,5 @@
 -- Document 01, 'Refusal numbers': each call's refusals in their order, and what it answers and leaves in all lent memory, for every input;
--- with the lists of writes and the replayer of document 02's request e.
+-- with the lists of writes and the replayer of document 02's request e, and the repair of its request g.
 -- A public call's contract is an equation with one of the `after..` definitions, and so is each step of a run in demand 3.
 -- Assumes nothing.
 use Prim.Native.Nat.{ℕ}
@@ -12,9 +12,9 @@ use Rattle.format.specs.Refusals.{Try, Refusal, NAME, UNSOUND, ABSENT, T
 use Rattle.format.specs.Geometry.{Format, Geometry, geometry, sectorNumber, onDisc, Disc, cut, flat, Part, bodyPart, Write, written}
 use Rattle.format.specs.Names.{stored, discName}
 use Rattle.format.specs.Layout.{namePlace, attributePlace, attributeOf, isProtected, protectedAs, free, find}
-use Rattle.format.specs.Check.{broken, sound}
+use Rattle.format.specs.Check.{filesHold, broken, sound}
 use Rattle.format.specs.Modules.{Module, endOf, allowed}
-use Rattle.format.specs.Effects.{isSome, slotWrite, needed, saveWrites, deleteWrites, reading, listing, blankDisc}
+use Rattle.format.specs.Effects.{isSome, slotWrite, needed, saveWrites, deleteWrites, reading, listing, blankDisc, repairWrites}
 use Rattle.format.specs.Writes.{writeList, held}
 
 -- ---- the refusals in their order, after 1, on a disc
@@ -86,6 +86,12 @@ module _ (G : Geometry) (d : Disc) where
   unfoldable pub replayOn : (writes : List ℕ) → Try Refusal (List Write)
   replayOn writes = held G writes orRefuse BAD-LIST
 
+  -- "If one of rules 1 to 5 is broken, it answers 3, after 1."
+  unfoldable pub repairOn : Try Refusal (List Write)
+  repairOn = do
+    refuse UNSOUND if not (filesHold G d)
+    ok (repairWrites G d)
+
 -- what a command that is done leaves: the new image, and the list of what it wrote
 pub record Change : Type 0 where
   pub image : List ℕ
@@ -148,6 +154,10 @@ module _ (F : Format) (image : List ℕ) where
   abbrev pub replay : (writes : List ℕ) → Try Refusal (List ℕ)
   replay writes = changed (λ G d. replayOn G d writes)
 
+  -- the image after a repair
+  abbrev pub repair : Try Refusal (List ℕ)
+  repair = changed (λ G d. repairOn G d)
+
   -- "blank 1, 2"
   unfoldable pub blank : (name : List ℕ) → Try Refusal (List ℕ)
   blank name = do
@@ -164,7 +174,7 @@ module _ (F : Format) (image : List ℕ) where
 
 -- ---- what each call answers and leaves: "With a refusal every other number in the answer is 0, a view is empty, and all lent memory stays."
 
--- blank and replay, and each step of a run: the number, and the image afterwards
+-- blank, replay and repair, and each step of a run: the number, and the image afterwards
 pub record Answer : Type 0 where
   pub number : ℕ
   pub image : List ℕ
@@ -263,6 +273,9 @@ module _ (F : Format) (image : List ℕ) where
   -- ".. and writes nothing"
   unfoldable pub afterReplay : (writes : List ℕ) → Answer
   afterReplay writes = answerBy image (replay F image writes)
+
+  unfoldable pub afterRepair : Answer
+  afterRepair = answerBy image (repair F image)
 
   unfoldable pub afterBlank : (name : List ℕ) → Answer
   afterBlank name = answerBy image (blank F image name)

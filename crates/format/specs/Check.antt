@@ -67,6 +67,10 @@ module _ (G : Geometry) (d : Disc) where
   unfoldable pub rule5 : Bool
   rule5 = all goodChain (entries G d) && distinct (0 ∷ directory G d ++ fileSectors G d)
 
+  -- "If rules 1 to 5 hold" (document 02, request g)
+  unfoldable pub filesHold : Bool
+  filesHold = rule1 && rule2 && rule3 && rule4 && rule5
+
   -- 6. "The free chain .. is on the disc, ends, meets no sector twice, nor 0/1, nor one met by the directory or a file, and has the length in the free count."
   unfoldable pub rule6 : Bool
   rule6 = chainEnds G d (freePointer G d) && distinct (0 ∷ places G d) && eqb (length (free G d)) (freeCount d)

@@ -3,11 +3,12 @@
 use mathlib.Core.Path.{_≡_, refl}
 use Prim.Native.Nat.{ℕ, _<_}
 use native.Mathlib.Omega.{arith}
-use mathlib.Core.Bool.{Bool, true, false, not}
+use mathlib.Core.Bool.{Bool, true, false, not, _&&_, false≢true}
+use lib.Dec.{leb}
 use borrow.Author.Tests.{eqb-true}
 use Rattle.format.specs.Refusals.{Try, refuse_if_, _>>_}
 use Rattle.format.specs.Geometry.{Geometry, Disc}
-use Rattle.format.specs.Check.{lowest, rule1, rule2, rule3, rule4, rule5, rule6, rule7, rule8, broken, sound}
+use Rattle.format.specs.Check.{lowest, rule1, rule2, rule3, rule4, rule5, filesHold, rule6, rule7, rule8, broken, sound}
 
 -- rules 1 to 5: what a repair may rely on
 pub record RulesTo5 (G : Geometry) (d : Disc) : Type 0 where
@@ -83,3 +84,49 @@ module _ (G : Geometry) (d : Disc) where
   pub broken-8 : RulesTo5 G d → rule6 G d ≡ true → rule7 G d ≡ true → rule8 G d ≡ false → broken G d ≡ 8
   unfolding broken refuse_if_ _>>_
   broken-8 r a b c = rw (r .r1, r .r2, r .r3, r .r4, r .r5, a, b, c)
+
+-- ---- rules 1 to 5
+
+-- whether the lowest rule of a run of tests, if one is broken, is after the first five
+lowest-five : (a b c d e f g h : Bool) → let n = lowest (do
+  refuse 1 if not a
+  refuse 2 if not b
+  refuse 3 if not c
+  refuse 4 if not d
+  refuse 5 if not e
+  refuse 6 if not f
+  refuse 7 if not g
+  refuse 8 if not h) in (a && b && c && d && e) ≡ not (leb 1 n && leb n 5)
+unfolding refuse_if_ _>>_
+lowest-five false b c d e f g h = refl
+lowest-five true false c d e f g h = refl
+lowest-five true true false d e f g h = refl
+lowest-five true true true false e f g h = refl
+lowest-five true true true true false f g h = refl
+lowest-five true true true true true false g h = refl
+lowest-five true true true true true true false h = refl
+lowest-five true true true true true true true false = refl
+lowest-five true true true true true true true true = refl
+
+and-both : (a b : Bool) → a && b ≡ true → (a ≡ true) × (b ≡ true)
+and-both true b e = (refl, e)
+and-both false b e = absurd (false≢true e)
+
+module _ (G : Geometry) (d : Disc) where
+  -- they hold exactly where the check reports none of them
+  pub hold-reported : filesHold G d ≡ not (leb 1 (broken G d) && leb (broken G d) 5)
+  unfolding filesHold broken
+  hold-reported = lowest-five (rule1 G d) (rule2 G d) (rule3 G d) (rule4 G d) (rule5 G d) (rule6 G d) (rule7 G d) (rule8 G d)
+
+  pub rules-hold : RulesTo5 G d → filesHold G d ≡ true
+  unfolding filesHold
+  rules-hold r = rw (r .r1, r .r2, r .r3, r .r4, r .r5)
+
+  pub hold-rules : filesHold G d ≡ true → RulesTo5 G d
+  unfolding filesHold
+  hold-rules e =
+      let h4 = and-both _ _ e in
+      let h3 = and-both _ _ (h4 .0) in
+      let h2 = and-both _ _ (h3 .0) in
+      let h1 = and-both _ _ (h2 .0) in
+      record { r1 = h1 .0; r2 = h1 .1; r3 = h2 .1; r4 = h3 .1; r5 = h4 .1 }

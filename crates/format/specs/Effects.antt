@@ -1,4 +1,4 @@
--- Document 01, 'What the commands do': what each command gives and writes on a disc where no refusal applies.
+-- Document 01, 'What the commands do': what each command gives and writes on a disc where no refusal applies; and the repair of document 02's request g.
 -- What a command writes is a list of whole sectors, each as it stands afterwards. Their order is request e's of document 02.
 -- Assumes nothing.
 use Prim.Native.Nat.{ℕ, _+_, _-_}
@@ -7,9 +7,9 @@ use mathlib.Core.Option.{Option, none, some}
 use mathlib.Core.List.{List, [], _∷_, _++_, map}
 use lib.ListN.{length, take, drop, replicate}
 use lib.Seq.{sets}
-use Rattle.format.specs.Lists.{byte, word, filter, elem, range, joined, lastOr}
+use Rattle.format.specs.Lists.{byte, word, filter, elem, range, joined, sum, lastOr}
 use Rattle.format.specs.Geometry.{Geometry, sectors, sectorNumber, Next, stop, go, Disc, sector, Write, written}
-use Rattle.format.specs.Layout.{freePlace, directoryPlace, freeCountPlace, discNamePlace, versionPlace, linkPlace, inUsePlace, system, freeCount, usedCount, discNameOf, attribute, Slot, slotStart, emptySlot, nameOf, lengthOf, attributeOf, linkOf, linkBytes, pairBytes, freePointer, directory, free, entries, openSlot, firstOf, fileChain}
+use Rattle.format.specs.Layout.{freePlace, directoryPlace, freeCountPlace, discNamePlace, versionPlace, linkPlace, inUsePlace, system, freeCount, usedCount, discNameOf, attribute, Slot, slotStart, emptySlot, nameOf, lengthOf, attributeOf, linkOf, linkBytes, pairBytes, freePointer, directory, free, entries, openSlot, firstOf, fileChain, fileSectors}
 use Rattle.format.specs.Modules.{Module, sectorsFor, bodies, plain}
 
 -- ---- parts of sectors
@@ -127,13 +127,17 @@ module _ (G : Geometry) where
   unfoldable pub passing : List ℕ
   passing = joined (map (λ t. map (sectorNumber G t) (G .order)) (range 0 (G .tracks)))
 
+  -- the sectors that the chain passes, but for those that are taken
+  abbrev pub passingBut : (taken : List ℕ) → List ℕ
+  passingBut taken = filter (λ n. not (elem n taken)) passing
+
   -- "directory pointer 0/4"
   abbrev pub blankDirectory : ℕ
   blankDirectory = sectorNumber G 0 4
 
   -- "0/1 and 0/4 are taken"
   unfoldable pub blankFree : List ℕ
-  blankFree = filter (λ n. not (elem n (0 ∷ blankDirectory ∷ []))) passing
+  blankFree = passingBut (0 ∷ blankDirectory ∷ [])
 
   -- "all zeros, then directory pointer 0/4, counts 10T - 2 and 0, name padded with spaces, version .."; "Bytes $0-$F stay zero"
   unfoldable pub blankSystem : (nine : List ℕ) → List ℕ
@@ -149,3 +153,16 @@ module _ (G : Geometry) where
   blankDisc nine =
       written (record { at = 0; bytes = blankSystem nine } ∷ chained blankFree (replicate (sectors G - 2) (replicate 254 0)))
       (replicate (sectors G) (replicate 256 0))
+
+  -- ---- repair
+
+  -- "every sector that is neither 0/1 nor met by the directory or a file .. in the order a blank disc uses"
+  unfoldable pub unmet : Disc → List ℕ
+  unmet d = passingBut (0 ∷ directory G d ++ fileSectors G d)
+
+  -- "threads [them] into a new free chain .., ends it with zeros, and sets the free pointer (zeros if that is empty) and both counts; no other byte
+  -- changes": each sector once, so that their order says nothing, and a repair gives no list
+  unfoldable pub repairWrites : Disc → List Write
+  repairWrites d =
+      systemWrite d (headOf (unmet d)) (length (unmet d)) (sum (map lengthOf (entries G d)))
+      ∷ chained (unmet d) (map (λ n. body (sector d n)) (unmet d))

@@ -11,7 +11,7 @@ use Rattle.format.specs.Refusals.{Try, Refusal, SIZE, refused, ok, _>>=_
 use Rattle.format.specs.Geometry.{Format, stated, arranged, geometry, cut, flat, Part, movedPart, bytesOf}
 use Rattle.format.specs.Modules.{Module}
 use Rattle.format.specs.Calls as calls
-use Rattle.format.specs.Calls.{Answer, answered, ChangeAnswer, changeAnswerBy, listAnswerBy, readAnswerBy, afterCheck, afterList, afterRead, afterSave, afterDelete, afterRename, afterProtect, afterReplay, afterBlank, viewNumber, viewPart}
+use Rattle.format.specs.Calls.{Answer, answered, ChangeAnswer, changeAnswerBy, listAnswerBy, readAnswerBy, afterCheck, afterList, afterRead, afterSave, afterDelete, afterRename, afterProtect, afterReplay, afterRepair, afterBlank, viewNumber, viewPart}
 
 -- an arrangement of a track's places: each sector of the track once
 abbrev pub Arrangement : Format → List ℕ → Type 0
@@ -52,6 +52,7 @@ module _ (F : Format) (A : List ℕ) where
     pub protect : (image name : List ℕ) (on : ℕ) (buffer : List ℕ)
         → afterProtect (arranged A F) (movedForm image) name on buffer ≡ movedChange (afterProtect F image name on buffer)
     pub replay : (image writes : List ℕ) → afterReplay (arranged A F) (movedForm image) writes ≡ movedAnswer (afterReplay F image writes)
+    pub repair : (image : List ℕ) → afterRepair (arranged A F) (movedForm image) ≡ movedAnswer (afterRepair F image)
     pub blank : (image name : List ℕ) → afterBlank (arranged A F) (movedForm image) name ≡ movedAnswer (afterBlank F image name)
     -- the part at the moved place, with the same bytes; the number of a view is a call of its own
     pub view : (image : List ℕ) (track sector : ℕ)
@@ -80,6 +81,7 @@ pub record GivesOne (F : Format) : Type 0 where
   pub rename : (image old new buffer : List ℕ) → afterRename F image old new buffer ≡ changeAnswerBy image buffer (refused SIZE)
   pub protect : (image name : List ℕ) (on : ℕ) (buffer : List ℕ) → afterProtect F image name on buffer ≡ changeAnswerBy image buffer (refused SIZE)
   pub replay : (image writes : List ℕ) → afterReplay F image writes ≡ answered 1 image
+  pub repair : (image : List ℕ) → afterRepair F image ≡ answered 1 image
   pub blank : (image name : List ℕ) → afterBlank F image name ≡ answered 1 image
   pub view : (image : List ℕ) (track sector : ℕ) → calls.view F image track sector ≡ refused SIZE
 

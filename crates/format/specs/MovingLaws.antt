@@ -15,12 +15,12 @@ use Rattle.format.specs.Geometry.{Format, ten, tenMoved, unknown, stated
 use Rattle.format.specs.Arrangements.{in-order-once, Arranged}
 use Rattle.format.specs.GeometryLaws.{same-length, no-disc, place-back, number-below, on-disc-is, ImageOf, geometry-ok, Full, cut-full, cut-flat, flat-cut, flat-long}
 use Rattle.format.specs.Formats.{stated-cases, other-arrangement, other-sectors, nine-moved}
-use Rattle.format.specs.Calls.{listOn, readOn, saveOn, deleteOn, renameOn, protectOn, replayOn, partBy, listAnswerBy, readAnswerBy, answered, answerBy, asked, changed, listed, changeAnswerBy, blank, view, checkAnswerBy, afterCheck, afterList, afterRead, afterSave, afterDelete, afterRename, afterProtect, afterReplay, afterBlank, viewNumber, viewPart}
+use Rattle.format.specs.Calls.{listOn, readOn, saveOn, deleteOn, renameOn, protectOn, replayOn, repairOn, partBy, listAnswerBy, readAnswerBy, answered, answerBy, asked, changed, listed, changeAnswerBy, blank, view, checkAnswerBy, afterCheck, afterList, afterRead, afterSave, afterDelete, afterRename, afterProtect, afterReplay, afterRepair, afterBlank, viewNumber, viewPart}
 use Rattle.format.specs.Names.{discName}
 use Rattle.format.specs.Check.{broken}
 use Rattle.format.specs.Effects.{body, blankDisc}
 use Rattle.format.specs.CallLaws.{view-body}
-use Rattle.format.specs.WholeWrites.{Whole, written-full, save-whole, delete-whole, rename-whole, protect-whole, blank-whole}
+use Rattle.format.specs.WholeWrites.{Whole, written-full, save-whole, delete-whole, rename-whole, protect-whole, blank-whole, repair-whole}
 use Rattle.format.specs.Writes.{writeList}
 use Rattle.format.specs.WriteLaws.{replay-whole}
 use Rattle.format.specs.Moving.{Arrangement, movedForm, movedView, movedAnswer, movedChange, Moves, MovesAlike, MovesBack, GivesOne, OtherNumbers}
@@ -213,7 +213,7 @@ module _ (F : Format) (own : Arrangement F (F .arrangement)) (A : List ℕ) (oth
 
   -- "Show this once for any arrangement of the ten places"
   pub moves : Moves F A
-  unfolding afterCheck afterList afterRead afterSave afterDelete afterRename afterProtect afterReplay afterBlank
+  unfolding afterCheck afterList afterRead afterSave afterDelete afterRename afterProtect afterReplay afterRepair afterBlank
   moves =
       record {
         check = λ image. ap checkAnswerBy (asked-moved (λ G d. ok (broken G d)) image);
@@ -224,6 +224,7 @@ module _ (F : Format) (own : Arrangement F (F .arrangement)) (A : List ℕ) (oth
         rename = λ image old new buffer. listed-moved (λ G d. renameOn G d old new) (λ G d f ws p. rename-whole G d f old new ws p) image buffer;
         protect = λ image name on buffer. listed-moved (λ G d. protectOn G d name on) (λ G d f ws p. protect-whole G d f name on ws p) image buffer;
         replay = λ image writes. changed-moved (λ G d. replayOn G d writes) (λ G d f ws p. replay-whole G d writes ws p) image;
+        repair = λ image. changed-moved (λ G d. repairOn G d) (λ G d f ws p. repair-whole G d f ws p) image;
         blank = λ image name. blank-moved name image;
         view = λ image t s. part-moved t s image;
         view-number = λ image t s. view-moved t s image;
@@ -294,7 +295,7 @@ card-places = record { of-track = refl; starts-0-4 = refl; starts-39-10 = refl }
 -- ---- what gives 1
 
 none-gives-one : GivesOne unknown
-unfolding view asked changed listed changeAnswerBy blank answerBy afterCheck checkAnswerBy afterList listAnswerBy afterRead afterSave afterDelete afterRename afterProtect afterReplay afterBlank _>>=_ number valueOr
+unfolding view asked changed listed changeAnswerBy blank answerBy afterCheck checkAnswerBy afterList listAnswerBy afterRead afterSave afterDelete afterRename afterProtect afterReplay afterRepair afterBlank _>>=_ number valueOr
 none-gives-one =
     record {
       check = λ image. rw (no-disc (length image));
@@ -305,6 +306,7 @@ none-gives-one =
       rename = λ image old new buffer. rw (no-disc (length image));
       protect = λ image name on buffer. rw (no-disc (length image));
       replay = λ image writes. rw (no-disc (length image));
+      repair = λ image. rw (no-disc (length image));
       blank = λ image name. rw (no-disc (length image));
       view = λ image t s. rw (no-disc (length image));
     }

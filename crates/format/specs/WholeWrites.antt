@@ -8,8 +8,8 @@ use native.Mathlib.Nat.{lt-of-not-le}
 use mathlib.Core.Bool.{not}
 use lib.Dec.{eqb}
 use mathlib.Core.Option.{Option, none, some}
-use mathlib.Core.List.{List, [], _∷_, _++_}
-use lib.ListN.{length, set, replicate, length-replicate}
+use mathlib.Core.List.{List, [], _∷_, _++_, map}
+use lib.ListN.{length, set, replicate, length-replicate, length-drop}
 use lib.Seq.{length-sets}
 use Rattle.format.specs.Lists.{lastOr}
 use Rattle.format.specs.Refusals.{ok}
@@ -19,9 +19,9 @@ use Rattle.format.specs.GeometryLaws.{Full, full-set, sector-full}
 use Rattle.format.specs.Layout.{namePlace, attributePlace, attributeOf, protectedAs, Slot, linkPlace, linkBytes, freePointer, directory, fileChain, openSlot, slotStart, emptySlot}
 use Rattle.format.specs.Modules.{Module}
 use Rattle.format.specs.ModuleLaws.{bodies-254}
-use Rattle.format.specs.Effects.{slotWrite, withSlot, withLink, entryWrite, headOf, chained, systemWrite, entryWrites, saveWrites, deleteWrites, blankFree, blankSystem, blankDisc}
-use Rattle.format.specs.Calls.{saveOn, deleteOn, renameOn, protectOn}
-use Rattle.format.specs.CallLaws.{save-ok, delete-ok, rename-ok, protect-ok}
+use Rattle.format.specs.Effects.{body, slotWrite, withSlot, withLink, entryWrite, headOf, chained, systemWrite, entryWrites, saveWrites, deleteWrites, blankFree, blankSystem, blankDisc, unmet, repairWrites}
+use Rattle.format.specs.Calls.{saveOn, deleteOn, renameOn, protectOn, repairOn}
+use Rattle.format.specs.CallLaws.{save-ok, delete-ok, rename-ok, protect-ok, repair-ok}
 
 -- a write of a whole sector, if it is one of the disc
 abbrev pub Whole : Geometry → Write → Type 0
@@ -87,6 +87,19 @@ module _ (G : Geometry) where
         entry-whole s _ emptySlot also link-whole (lastOr 0 (fileChain G d s)) (linkBytes G (freePointer G d)) also system-whole _ _ _ also done
 
     -- the accepted commands
+    -- a sector of the disc with another link
+    thread-whole : (n : ℕ) (p : Next) → Whole G (record { at = n; bytes = linkBytes G p ++ body (sector d n) })
+    thread-whole n p l = omega (arith, length-drop 2 (sector d n), sector-full f n l)
+
+    threads-whole : (ns : List ℕ) → All (Whole G) (chained G ns (map (λ n. body (sector d n)) ns))
+    unfolding chained
+    threads-whole [] = done
+    threads-whole (n ∷ ns) = thread-whole n (headOf ns) also threads-whole ns
+
+    pub repaired-whole : All (Whole G) (repairWrites G d)
+    unfolding repairWrites
+    repaired-whole = system-whole _ _ _ also threads-whole (unmet G d)
+
     pub save-whole : (name : List ℕ) (m : Module) (ws : List Write) → saveOn G d name m ≡ ok ws → All (Whole G) ws
     save-whole name m ws p = let s = save-ok G d name m ws p in subst (All (Whole G)) (s .writes) (saved-whole (s .nine) m)
 
@@ -100,6 +113,9 @@ module _ (G : Geometry) where
     protect-whole name on ws p =
         let s = protect-ok G d name on ws p in
         subst (All (Whole G)) (s .writes) (slot-whole (s .s) attributePlace (protectedAs (not (eqb on 0)) (attributeOf (s .s)) ∷ []) also done)
+
+    pub repair-whole : (ws : List Write) → repairOn G d ≡ ok ws → All (Whole G) ws
+    repair-whole ws p = subst (All (Whole G)) (repair-ok G d ws p .1) repaired-whole
 
   all-replicate : {A : Type 0} {P : A → Type 0} (n : ℕ) (x : A) → P x → All P (replicate n x)
   all-replicate zero x h = done

@@ -1,7 +1,7 @@
 -- Document 02, request e, 'A list of what was written': the bytes of a list of writes, and the writes that a list holds.
 -- Which sectors a command writes, and in which order, is said in Effects.
 -- Assumes nothing.
-use Prim.Native.Nat.{ℕ, zero, suc, _+_, _*_}
+use Prim.Native.Nat.{ℕ, zero, suc, _+_, _*_, _/_}
 use mathlib.Core.Bool.{_&&_, cond}
 use mathlib.Core.Option.{Option, none, some}
 use mathlib.Core.List.{List, [], _∷_, _++_}
@@ -24,6 +24,10 @@ writeList G (w ∷ ws) = recordOf G w ++ writeList G ws
 -- the length of a list of n writes of whole sectors (the law `list-long`): 259 bytes a record, and one for kind 0
 abbrev pub listSize : ℕ → ℕ
 listSize n = 259 * n + 1
+
+-- and back: how many writes a list of so many bytes has
+abbrev pub writesIn : ℕ → ℕ
+writesIn size = size / 259
 
 -- ---- the writes that a list holds
 

@@ -1,6 +1,6 @@
 -- From what the passes over marks answer to the rules of the check.
 -- Assumes nothing.
-use mathlib.Core.Path.{_≡_, refl, sym, ap, ap₂, _∙_}
+use mathlib.Core.Path.{_≡_, refl, sym, ap, ap₂, _∙_, subst}
 use Prim.Native.Nat.{ℕ, zero, suc, _+_, _-_, _≤_, _<_}
 use native.Mathlib.Omega.{arith}
 use mathlib.Core.Bool.{Bool, true, false, not, _&&_, _||_}
@@ -15,7 +15,7 @@ use Rattle.format.specs.GeometryLaws.{OnDisc, pointed-on}
 use Rattle.format.specs.Layout.{Slot, lengthOf, usedCount, freeCount, chain, chainEnds, directoryPointer, freePointer, directory, free, entries, fileChain, fileSectors, firstOf, places}
 use Rattle.format.specs.ChainLaws.{met-below}
 use Rattle.format.specs.Check.{elsewhere, goodChain, rule1, rule2, rule3, rule4, rule5, rule6, rule7, rule8, broken}
-use Rattle.format.specs.CheckLaws.{RulesTo5}
+use Rattle.format.specs.CheckLaws.{RulesTo5, broken-5}
 use Rattle.disc.specs.Meaning.{geo, Valid}
 use Rattle.disc.specs.declared.Geometry as code
 use Rattle.fsck.specs.Marks.{noMarks, marked, fresh, clear, Below, marked-join, fresh-join, fresh-none, marked-none}
@@ -26,6 +26,8 @@ use Rattle.fsck.specs.declared.Walk.{Walk}
 use Rattle.fsck.specs.declared.Walk.the-variants.{Ended, Broken}
 use Rattle.fsck.specs.declared.Files.{Files}
 use Rattle.fsck.specs.declared.Files.the-variants.{Good, Bad}
+use Rattle.fsck.specs.declared.Standing.{Standing}
+use Rattle.fsck.specs.declared.Standing.the-variants.{Fails, Holds}
 
 -- the marks of 0/1 and of the sectors ns
 unfoldable pub marksOf : List ℕ → List ℕ
@@ -38,18 +40,43 @@ pub record RulesTo4 (G : Geometry) (d : Disc) : Type 0 where
   pub r3 : rule3 G d ≡ true
   pub r4 : rule4 G d ≡ true
 
--- what the first half of the check answers, and the marks that it leaves: 0 where rules 1 to 4 hold
+-- what rules 1 to 4 answer, and the marks that they leave: 0 where they hold
 pub record DirectoryChecked (G : Geometry) (d : Disc) (r : ℕ) (m′ : List ℕ) : Type 0 where
   pub lowest : (r ≡ 0 → ⊥) → r ≡ broken G d
+  pub few : r ≤ 4
   pub rules : r ≡ 0 → RulesTo4 G d
   pub marks : r ≡ 0 → m′ ≡ marksOf (directory G d)
 
 module _ {G : Geometry} {d : Disc} {m′ : List ℕ} where
-  pub checked-broken : (r : ℕ) → 0 < r → broken G d ≡ r → DirectoryChecked G d r m′
-  checked-broken r h e = record { lowest = λ _. sym e; rules = λ z. absurd (omega arith); marks = λ z. absurd (omega arith) }
+  pub checked-broken : (r : ℕ) → 0 < r → r ≤ 4 → broken G d ≡ r → DirectoryChecked G d r m′
+  checked-broken r h few e = record { lowest = λ _. sym e; few = few; rules = λ z. absurd (omega arith); marks = λ z. absurd (omega arith) }
 
   pub checked-sound : RulesTo4 G d → m′ ≡ marksOf (directory G d) → DirectoryChecked G d 0 m′
-  checked-sound h e = record { lowest = λ z. absurd (z refl); rules = λ _. h; marks = λ _. e }
+  checked-sound h e = record { lowest = λ z. absurd (z refl); few = omega arith; rules = λ _. h; marks = λ _. e }
+
+-- rules 1 to 5 hold, the files have k sectors, and the marks are those of 0/1, the directory and the files
+pub record Stood (G : Geometry) (d : Disc) (k : ℕ) (m : List ℕ) : Type 0 where
+  pub to5 : RulesTo5 G d
+  pub used : k ≡ sum (map lengthOf (entries G d))
+  pub marks : m ≡ marksOf (directory G d ++ fileSectors G d)
+
+-- one of rules 1 to 5 is broken, and k is the lowest such
+pub record Lowest (G : Geometry) (d : Disc) (k : ℕ) : Type 0 where
+  pub is : k ≡ broken G d
+  pub some : 0 < k
+  pub few : k ≤ 5
+
+-- what rules 1 to 5 answer, and the marks that they leave
+abbrev pub Stands : Geometry → Disc → Standing → List ℕ → Type 0
+Stands G d (Fails k) m = Lowest G d k
+Stands G d (Holds k) m = Stood G d k m
+
+module _ (G : Geometry) (d : Disc) (m : List ℕ) (k : ℕ) {r : Standing} (s : Stands G d r m) where
+  pub stands-broken : r ≡ Fails k → Lowest G d k
+  stands-broken e = subst (λ (x : Standing). Stands G d x m) e s
+
+  pub stands-good : r ≡ Holds k → Stood G d k m
+  stands-good e = subst (λ (x : Standing). Stands G d x m) e s
 
 -- ---- marks of sectors that are met one after the other
 
@@ -130,18 +157,31 @@ module _ {g : code.Geometry} (v : Valid g) (d : Disc) where
         ap (λ (b : Bool). all (goodChain G d) (entries G d) && b)
         (sym (fresh-after (directory G d) (fileSectors G d) (all-join below-system below-directory) below-files once) ∙ ap (λ (y : List ℕ). fresh y (fileSectors G d)) (sym before))
 
-    pub rule5-bad : a ≡ Bad → rule5 G d ≡ false
+    pub rule5-bad : a ≡ Bad → Lowest G d 5
     unfolding fileSectors
-    rule5-bad e = files-are ∙ filed-bad G d m (entries G d) (sym e ∙ f .answer)
+    rule5-bad e =
+        let r5 = files-are ∙ filed-bad G d m (entries G d) (sym e ∙ f .answer) in
+        record { is = sym (broken-5 G d (r .r1) (r .r2) (r .r3) (r .r4) r5); some = omega arith; few = omega arith }
 
-    pub rule5-good : (k : ℕ) → a ≡ Good k → RulesTo5 G d × (k ≡ sum (map lengthOf (entries G d))) × (m′ ≡ marksOf (directory G d ++ fileSectors G d))
+    pub rule5-good : (k : ℕ) → a ≡ Good k → Stood G d k m′
     unfolding fileSectors
     rule5-good k e =
-        let says = filed-good G d m (entries G d) k (sym e ∙ f .answer) in (
-          record { r1 = r .r1; r2 = r .r2; r3 = r .r3; r4 = r .r4; r5 = files-are ∙ says .0 },
-          says .1,
-          f .marks (good e) ∙ ap (λ (y : List ℕ). marked y (fileSectors G d)) before ∙ marks-join (directory G d) (fileSectors G d),
-        )
+        let says = filed-good G d m (entries G d) k (sym e ∙ f .answer) in
+        record {
+          to5 = record { r1 = r .r1; r2 = r .r2; r3 = r .r3; r4 = r .r4; r5 = files-are ∙ says .0 };
+          used = says .1;
+          marks = f .marks (good e) ∙ ap (λ (y : List ℕ). marked y (fileSectors G d)) before ∙ marks-join (directory G d) (fileSectors G d);
+        }
+
+  -- a sector without a mark is neither 0/1 nor met by the directory or a file
+  pub clear-is : {m : List ℕ} → m ≡ marksOf (directory G d ++ fileSectors G d) → (n : ℕ) → n < g .sectors
+      → clear m n ≡ not (elem n (0 ∷ directory G d ++ fileSectors G d))
+  unfolding marksOf
+  clear-is e n h = ap (λ (y : List ℕ). clear y n) e ∙ flip _ _ (marked-none 800 n (omega (arith, v .total)) below-both)
+    where
+      flip : (a b : Bool) → not a ≡ b → a ≡ not b
+      flip true b e = ap not e
+      flip false b e = ap not e
 
   -- ---- rule 6
 

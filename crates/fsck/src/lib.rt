@@ -12,16 +12,16 @@ ghost use mathlib.Core.Bool.{not};
 ghost use Prim.Native.Nat.{_-_, _≤_, _<_};
 ghost use Rattle.format.specs.Lists.{all, range};
 ghost use Rattle.format.specs.Geometry.{go};
-ghost use Rattle.format.specs.Layout.{slotsEach, inUse, slotAt, directory, entries};
+ghost use Rattle.format.specs.Layout.{slotsEach, inUse, slotAt, entries};
 ghost use Rattle.format.specs.Check.{at?, elsewhere, broken, sound};
 ghost use Rattle.format.specs.Calls.{afterCheck};
 ghost use Rattle.disc.specs.Meaning.{kindOf, geo, sectorsOf, meaning, Image, Lies, led, Reaches};
 ghost use Rattle.slots.specs.InOrder.{slotsFrom};
-ghost use Rattle.fsck.specs.Marks.{clear};
+ghost use Rattle.fsck.specs.Marks.{noMarks, clear};
 ghost use Rattle.fsck.specs.Walks.{Walked};
 ghost use Rattle.fsck.specs.Files.{Filed};
 ghost use Rattle.fsck.specs.Free.{FreeGood};
-ghost use Rattle.fsck.specs.Rules.{marksOf, RulesTo4, DirectoryChecked};
+ghost use Rattle.fsck.specs.Rules.{marksOf, DirectoryChecked, Stood, Stands};
 ghost use Rattle.fsck.specs.Answer.{Answers};
 
 // Place of the free pointer in the system sector.
@@ -230,14 +230,33 @@ fn directory_broken(image: &[u8], g: Geometry, marks: &mut [u8; 800]) -> u8
     0
 }
 
-// The lowest broken one of rules 5 to 8, or 0, where rules 1 to 4 hold and the directory is marked.
-fn files_broken(image: &[u8], g: Geometry, marks: &mut [u8; 800]) -> u8
-    requires { ⌜ Image g (now image) × RulesTo4 (geo g) (sectorsOf g (now image)) × (now marks ≡ marksOf (directory (geo g) (sectorsOf g (now image)))) ⌝ }
+// What rules 1 to 5 find: the lowest broken one of them; or they hold, and the files have so many sectors.
+pub enum Standing {
+    Fails(u8),
+    Holds(usize),
+}
+
+// Rules 1 to 5. Where they hold, 0/1 and the sectors of the directory and the files are marked.
+pub fn files_stand(image: &[u8], g: Geometry, marks: &mut [u8; 800]) -> Standing
+    requires { ⌜ Image g (now image) × (now marks ≡ noMarks) ⌝ }
+    ensures { λ r. ⌜ Stands (geo g) (sectorsOf g (now (image .entry))) r (now (marks .exit)) ⌝ }
+{
+    marks[0] = 1;
+    let rule = directory_broken(image, g, marks);
+    if rule != 0 {
+        return Standing::Fails(rule);
+    }
+    let Files::Good(used) = all_files(image, g, marks) else {
+        return Standing::Fails(5);
+    };
+    Standing::Holds(used)
+}
+
+// The lowest broken one of rules 6 to 8, or 0, where rules 1 to 5 hold.
+fn free_broken(image: &[u8], g: Geometry, marks: &mut [u8; 800], used: usize) -> u8
+    requires { ⌜ Image g (now image) × Stood (geo g) (sectorsOf g (now image)) used (now marks) ⌝ }
     ensures { λ r. ⌜ r ≡ broken (geo g) (sectorsOf g (now (image .entry))) ⌝ }
 {
-    let Files::Good(used) = all_files(image, g, marks) else {
-        return 5;
-    };
     if !free_good(image, g, marks) {
         return 6;
     }
@@ -256,12 +275,10 @@ pub fn lowest_broken(image: &[u8], g: Geometry) -> u8
     ensures { λ r. ⌜ r ≡ broken (geo g) (sectorsOf g (now (image .entry))) ⌝ }
 {
     let mut marks = [0; 800];
-    marks[0] = 1;
-    let rule = directory_broken(image, g, &mut marks);
-    if rule != 0 {
-        return rule;
+    match files_stand(image, g, &mut marks) {
+        Standing::Fails(rule) => rule,
+        Standing::Holds(used) => free_broken(image, g, &mut marks, used),
     }
-    files_broken(image, g, &mut marks)
 }
 
 pub fn is_sound(image: &[u8], g: Geometry) -> bool

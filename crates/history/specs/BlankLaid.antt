@@ -4,21 +4,22 @@ use mathlib.Core.Path.{_≡_, refl, sym, ap, ap₂, _∙_, subst}
 use mathlib.Core.Logic.{_≢_}
 use Prim.Native.Nat.{ℕ, zero, suc, _+_, _*_, _-_, _≤_, _<_}
 use native.Mathlib.Omega.{arith}
-use native.Mathlib.Decide.{ℕ-discrete, decLt}
-use native.Mathlib.Nat.{mul-le-mul-left, div-lt-iff-lt-mul, mul-comm}
+use native.Mathlib.Decide.{ℕ-discrete}
+use native.Mathlib.Nat.{mul-le-mul-left}
 use mathlib.Core.Bool.{Bool, not}
 use mathlib.Core.List.{List, [], _∷_, map, _++_, append-nil}
 use lib.ListN.{length, set, replicate, length-replicate, getD-replicate}
 use lib.Seq.{sets, length-sets}
 use borrow.Author.Tests.{ne-eqb, eq-eqb}
-use Rattle.format.specs.Lists.{elem, range, joined, sum, times, byte, word, wordAt, Once}
-use Rattle.format.specs.ListLaws.{zero-or, All, done, _also_, times-none, times-join, times-here, times-past, at-all, once-long}
-use Rattle.format.specs.Geometry.{Geometry, sectors, sectorNumber, trackOf, sectorOf, Next, go, pointed, Disc, sector, written}
-use Rattle.format.specs.GeometryLaws.{pointed-stop, number-back, track-back, sector-back, sector-range, track-range, sector-other, sector-same, Full, full-set}
+use Rattle.format.specs.Lists.{elem, sum, times, byte, word, wordAt, Once}
+use Rattle.format.specs.ListLaws.{zero-or, All, done, _also_, times-none, times-here, times-past, at-all, once-long}
+use Rattle.format.specs.Geometry.{Geometry, sectors, Next, go, pointed, Disc, sector, written}
+use Rattle.format.specs.GeometryLaws.{pointed-stop, sector-other, sector-same, Full, full-set}
 use Rattle.format.specs.Layout.{freePlace, directoryPlace, freeCountPlace, usedCountPlace, discNamePlace, versionPlace, inUsePlace, Slot, inUse, lengthOf, slotsAt, slotsOf, pairAt, pairBytes, linkOf}
 use Rattle.format.specs.ChainLaws.{Chain, end, on}
 use Rattle.format.specs.Effects.{headOf, version, chained, passing, blankDirectory, blankFree, blankSystem, blankDisc}
 use Rattle.soundness.specs.Counts.{times-kept, times-lost, OneOf, one-of}
+use Rattle.soundness.specs.Passing.{passed-once, passed-not}
 use Rattle.soundness.specs.Stores.{getD-sets-off, getD-sets-in}
 use Rattle.soundness.specs.NameCounts.{called, called-none}
 use Rattle.soundness.specs.Slots.{zeros-unused}
@@ -32,8 +33,7 @@ pub record Passes (G : Geometry) : Type 0 where
   pub bounded : Bounded G
   pub some-track : 1 ≤ G .tracks
   pub four : 4 ≤ G .perTrack
-  pub inside : All (λ s. (1 ≤ s) × (s ≤ G .perTrack)) (G .order)
-  pub each : (s : ℕ) → 1 ≤ s → s ≤ G .perTrack → times s (G .order) ≡ 1
+  pub once : Once (suc (G .perTrack)) (G .order)
 
 all-replicate : {A : Type 0} {P : A → Type 0} (n : ℕ) (x : A) → P x → All P (replicate n x)
 all-replicate zero x h = done
@@ -45,52 +45,6 @@ module _ (G : Geometry) (ps : Passes G) where
 
   some-sector : 0 < G .perTrack
   some-sector = ps .bounded .some-sector
-
-  -- ---- one track, all tracks
-
-  track-none : (t n : ℕ) {ss : List ℕ} → All (λ s. (1 ≤ s) × (s ≤ G .perTrack)) ss → t ≢ trackOf G n → times n (map (sectorNumber G t) ss) ≡ 0
-  track-none t n done h = times-none n
-  track-none t n (_also_ {x = s} {xs = ss} k ks) h =
-      times-past n (sectorNumber G t s) (map (sectorNumber G t) ss) (λ e. h (sym (ap (trackOf G) e ∙ track-back G some-sector t s (k .0) (k .1))))
-      ∙ track-none t n ks h
-
-  track-same : (t n : ℕ) {ss : List ℕ} → All (λ s. (1 ≤ s) × (s ≤ G .perTrack)) ss → t ≡ trackOf G n → times n (map (sectorNumber G t) ss) ≡ times (sectorOf G n) ss
-  track-same t n done h = times-none n ∙ sym (times-none (sectorOf G n))
-  track-same t n (_also_ {x = s} {xs = ss} k ks) h =
-      let rest = track-same t n ks h in
-      elim (ℕ-discrete (sectorOf G n) s) [
-        | yes e ↦ omega (arith, times-here (sectorOf G n) s ss e, times-here n (sectorNumber G t s) (map (sectorNumber G t) ss) (sym (ap₂ (sectorNumber G) h (sym e) ∙ number-back G some-sector n)))
-        | no e ↦ omega (arith, times-past (sectorOf G n) s ss e, times-past n (sectorNumber G t s) (map (sectorNumber G t) ss) (λ w. e (ap (sectorOf G) w ∙ sector-back G some-sector t s (k .0) (k .1))))
-      ]
-
-  track : ℕ → List ℕ
-  track t = map (sectorNumber G t) (G .order)
-
-  tracks-none : (n a k : ℕ) → (a ≤ trackOf G n → a + k ≤ trackOf G n) → times n (joined (map track (range a k))) ≡ 0
-  unfolding track
-  tracks-none n a zero h = times-none n
-  tracks-none n a (suc k) h =
-      omega (arith, times-join n (track a) (joined (map track (range (suc a) k))), track-none a n (ps .inside) (λ e. omega (arith, h (omega arith))), tracks-none n (suc a) k (λ l. omega (arith, h (omega arith))))
-
-  tracks-one : (n a k : ℕ) → a ≤ trackOf G n → trackOf G n < a + k → times n (joined (map track (range a k))) ≡ 1
-  unfolding track
-  tracks-one n a zero h l = absurd (omega arith)
-  tracks-one n a (suc k) h l =
-      elim (ℕ-discrete a (trackOf G n)) [
-        | yes e ↦ omega (arith, times-join n (track a) (joined (map track (range (suc a) k))), track-same a n (ps .inside) e, ps .each (sectorOf G n) (omega arith) (sector-range G some-sector n), tracks-none n (suc a) k (λ w. absurd (omega arith)))
-        | no e ↦ omega (arith, times-join n (track a) (joined (map track (range (suc a) k))), track-none a n (ps .inside) e, tracks-one n (suc a) k (omega arith) (omega arith))
-      ]
-
-  passed-once : (n : ℕ) → n < sectors G → times n (passing G) ≡ 1
-  unfolding passing track
-  passed-once n h = tracks-one n 0 (G .tracks) (omega arith) (omega (arith, track-range G some-sector n h))
-
-  passed-not : (n : ℕ) → sectors G ≤ n → times n (passing G) ≡ 0
-  unfolding passing track
-  passed-not n h = tracks-none n 0 (G .tracks) (λ l. elim (decLt (trackOf G n) (G .tracks)) [
-    | yes w ↦ absurd (omega (arith, div-lt-iff-lt-mul some-sector .0 w, mul-comm (G .perTrack) (G .tracks)))
-    | no w ↦ omega arith
-  ])
 
   -- ---- the free sectors
 
@@ -112,10 +66,10 @@ module _ (G : Geometry) (ps : Passes G) where
       record {
         inside = λ n h k. elim (ℕ-discrete n (blankDirectory G)) [
           | yes e ↦ omega (arith, times-here n (blankDirectory G) (blankFree G) e, times-lost is-free n (passing G) (rw (ne-eqb n 0 (λ w. omega arith), eq-eqb n (blankDirectory G) e)))
-          | no e ↦ past n e ∙ stays n (λ w. omega arith) e ∙ passed-once n k
+          | no e ↦ past n e ∙ stays n (λ w. omega arith) e ∙ passed-once G some-sector (ps .once) n k
         ];
         zeroth = past 0 (λ w. omega (arith, three)) ∙ times-lost is-free 0 (passing G) refl;
-        outside = λ n h. past n (λ w. omega (arith, three, enough)) ∙ stays n (λ w. omega (arith, enough)) (λ w. omega (arith, three, enough)) ∙ passed-not n h;
+        outside = λ n h. past n (λ w. omega (arith, three, enough)) ∙ stays n (λ w. omega (arith, enough)) (λ w. omega (arith, three, enough)) ∙ passed-not G some-sector (ps .once) n h;
       }
 
   free-at : (n : ℕ) → OneOf (sectors G) n (times n (blankDirectory G ∷ [])) (times n []) (times n (blankFree G))

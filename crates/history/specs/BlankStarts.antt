@@ -8,7 +8,7 @@ use mathlib.Core.Option.{none, some}
 use mathlib.Core.List.{List}
 use lib.ListN.{length}
 use Rattle.format.specs.Lists.{padded}
-use Rattle.format.specs.ListLaws.{once-inside, padded-long}
+use Rattle.format.specs.ListLaws.{padded-long}
 use Rattle.format.specs.Refusals.{NAME, ok, _>>=_, number, valueOr}
 use Rattle.format.specs.RefusalLaws.{ok-is, or-ok, then-ok}
 use Rattle.format.specs.Geometry.{Format, unknown, stated, Geometry, geometry, cut, flat}
@@ -22,7 +22,7 @@ use Rattle.format.specs.Calls.{asked, blank, answerBy, checkAnswerBy, afterChec
 use Rattle.history.specs.Demand3.{BlankStarts}
 use Rattle.soundness.specs.Laid.{laid-sound}
 use Rattle.history.specs.Answers.{zero-ok}
-use Rattle.history.specs.Demand.{image-bounded}
+use Rattle.history.specs.Steps.{image-bounded}
 use Rattle.history.specs.BlankLaid.{Passes, blank-full, blank-laid}
 
 disc-nine : (name nine : List ℕ) → discName name ≡ some nine → length nine ≡ 9
@@ -33,19 +33,18 @@ disc-nine name nine e = by (letters 1 9 name) refl e
     by true p q = let is : padded 9 space name ≡ nine = cc in sym (ap length is) ∙ padded-long 9 space name (letters-true 1 9 name p .high)
     by false p q = let z : _≡_ {A = ℕ} 0 1 = cc in absurd (omega arith)
 
-passes : {F : Format} {G : Geometry} {n : ℕ} → GoodFormat F → ImageOf F G n → Passes G
+pub passes : {F : Format} {G : Geometry} {n : ℕ} → GoodFormat F → ImageOf F G n → Passes G
 passes {G = G} o i =
     record {
       bounded = image-bounded o i;
       some-track = i .some-track;
       four = rw (i .per-track) (four o);
-      inside = rw (i .in-order, i .per-track) (once-inside (o .passes-once));
-      each = rw (i .in-order, i .per-track) (λ s a b. o .passes-once .inside s a (omega arith));
+      once = rw (i .in-order, i .per-track) (o .passes-once);
     }
 
--- what an accepted blank leaves: an image of the same geometry that no rule of the check finds broken
+-- what an accepted blank leaves: an image of the same length that no rule of the check finds broken
 pub blank-sound : (F : Format) → GoodFormat F → (image name image′ : List ℕ) → blank F image name ≡ ok image′
-    → (G : Geometry) × (geometry F (length image′) ≡ ok G) × (broken G (cut F G image′) ≡ 0)
+    → (G : Geometry) × (geometry F (length image′) ≡ ok G) × (broken G (cut F G image′) ≡ 0) × (length image′ ≡ length image)
 unfolding blank
 blank-sound F o image name image′ e =
     let a = then-ok (geometry F (length image)) _ e in
@@ -59,7 +58,10 @@ blank-sound F o image name image′ e =
     let is : flat F G (blankDisc G nine) ≡ image′ = ok-is (b .2) in
     let size : length image′ ≡ length image = sym (ap length is) ∙ flat-long F G arr (blankDisc G nine) z ∙ sym (i .long) in
     let disc : cut F G image′ ≡ blankDisc G nine = ap (cut F G) (sym is) ∙ cut-flat F G arr (blankDisc G nine) z in
-    (G, ap (geometry F) size ∙ a .1, ap (broken G) disc ∙ laid-sound (blank-laid G (passes o i) nine long))
+    (G, ap (geometry F) size ∙ a .1, ap (broken G) disc ∙ laid-sound (blank-laid G (passes o i) nine long), size)
+
+pub blank-long : (F : Format) → GoodFormat F → (image name image′ : List ℕ) → blank F image name ≡ ok image′ → length image′ ≡ length image
+blank-long F o image name image′ e = blank-sound F o image name image′ e .3
 
 -- for every kind of disc
 pub blank-starts-of : (F : Format) → GoodFormat F → BlankStarts F

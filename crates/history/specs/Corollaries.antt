@@ -21,10 +21,10 @@ use Rattle.format.specs.Calls.{saveOn, ChangeAnswer, changeAnswerBy, readAnswer
 use Rattle.format.specs.CallLaws.{save-ok}
 use Rattle.format.specs.ListedLaws.{Outcome, stays, writes, outcome}
 use Rattle.history.specs.History.{Command, save, step, run, File, Book, nineOf, accepted, entered, openingBook, bookAfter, says}
-use Rattle.history.specs.Demand3.{isSound, Handed, Moment}
+use Rattle.history.specs.Demand3.{isSound, Handed, Moment, Demand3}
 use Rattle.history.specs.OnlyOne.{all-got}
 use Rattle.history.specs.State.{nine-of}
-use Rattle.history.specs.Demand.{run-moment, checked-sound}
+use Rattle.history.specs.DemandSays.{demand-3-of}
 
 all-any : {A : Type 0} {P : A → Type 0} (xs : List A) → ((x : A) → P x) → All P xs
 all-any [] h = done
@@ -55,9 +55,9 @@ module _ (F : Format) (f : GoodFormat F) (s : List ℕ) (G : Geometry) (g : geom
   -- "At the start these are the entries', each reading as read with a buffer of 65,536 bytes gives it."
   pub opening-reads : (i : ℕ) (file : File) → getElem? (openingBook G (cut F G s) .files) i ≡ some file
       → (typed buffer : List ℕ) → stored typed ≡ some (file .name) → length buffer ≡ 65536 → afterRead F s typed buffer ≡ readAnswerBy buffer (file .reading orRefuse NOT-PLAIN)
-  unfolding run bookAfter openingBook
+  unfolding Demand3 run bookAfter openingBook
   opening-reads i file e typed buffer t long =
-      let m = run-moment F f s G g (checked-sound F s G g checked) [] tt 0 (omega arith) in
+      let m = demand-3-of F f s G g checked [] tt 0 (omega arith) in
       let small = all-got {P = λ file. (m : Module) → file .reading ≡ some m → length (m .bytes) ≤ 65536} i file
       (all-mapped _ (all-any (entries G (cut F G s)) (λ slot. reading-small G (cut F G s) slot))) e in
       m .reads i file e typed buffer t ∙ ap (readAnswerBy buffer) (says-whole (file .reading) (length buffer) (λ m q. omega (arith, small m q)))
@@ -65,11 +65,11 @@ module _ (F : Format) (f : GoodFormat F) (s : List ℕ) (G : Geometry) (g : geom
   -- an accepted save's module is read back under its name
   pub saved-reads : (name : List ℕ) (m : Module) (lent : List ℕ) → Handed (save name m lent) → afterSave F s name m lent .number ≡ 0
       → (buffer : List ℕ) → afterRead F (afterSave F s name m lent .image) name buffer ≡ readAnswerBy buffer (says (some m) (length buffer))
-  unfolding run bookAfter step entered accepted
+  unfolding Demand3 run bookAfter step entered accepted
   saved-reads name m lent handed e buffer =
       let b : Book = openingBook G (cut F G s) in
       let c : Command = save name m lent in
       let now : Moment F G s (afterSave F s name m lent .image) (accepted b c) =
       subst (λ (k : ℕ). Moment F G s (afterSave F s name m lent .image) (entered b c k)) e
-      (run-moment F f s G g (checked-sound F s G g checked) (c ∷ []) (handed, tt) 1 (omega arith)) in
+      (demand-3-of F f s G g checked (c ∷ []) (handed, tt) 1 (omega arith)) in
       now .reads 0 _ refl name buffer (saved-typed F s name m lent G g e)

@@ -234,7 +234,7 @@ module _ {G : Geometry} {d : Disc} {dir frees nine : List ℕ} (u : Bounded G) (
       let gs = rw before at (l .filed .good-entries) in
       record {
         filed = record {
-          directory-chain = rw at-zero (rw (system-directory G u d full-system (firstOf G s) to-file _ _) (chain-frame d′ (l .filed .directory-chain) (at-all dir (λ n h. stays n (omega (arith, one n .one, within n)) (omega arith)))));
+          directory-chain = rw at-zero (rw (system-directory G d (firstOf G s) _ _) (chain-frame d′ (l .filed .directory-chain) (at-all dir (λ n h. stays n (omega (arith, one n .one, within n)) (omega arith)))));
           some-directory = l .filed .some-directory;
           in-use-counted = at-all dir (λ n h. counts′ n h (all-at (Counted d) n (l .filed .in-use-counted) h));
           good-entries = rw after (all-join (all-left pre (s ∷ post) gs) (tail-of (all-right pre gs)));

@@ -21,7 +21,7 @@ use Rattle.format.specs.Calls.{Answer, answered, ChangeAnswer, afterList, after
 
 -- "The list gives each command's arguments as handed in: the bytes of every name, sheet and lent buffer, and every number". A module is a
 -- save's page, start, transfer and sheet. "A blank disc is itself a start", and "After a replay demand 3 starts anew from the next sound image": so neither
--- is a command of a run, and the claim is over runs from any sound image.
+-- is a command of a run, and the claim is over runs from any sound image. Lists in which these, repairs and pulled cards stand too: Events.
 pub data Command : Type 0 where
   list : (buffer : List ℕ) → Command
   read : (name buffer : List ℕ) → Command

@@ -41,7 +41,7 @@ use Rattle.history.specs.BookFiles.{fileOf, filesOf, named-files, named-
 use Rattle.history.specs.State.{State, files-many}
 
 -- what read gives by the book, whose file of the name is f, if there is one
-gives : Option File → (room : ℕ) → Try Refusal Module
+pub gives : Option File → (room : ℕ) → Try Refusal Module
 gives none room = refused ABSENT
 gives (some f) room = says (f .reading) room
 
@@ -158,7 +158,7 @@ module _ {G : Geometry} {start d : Disc} {b : Book} (st : State G start d b) whe
 
   -- ---- what a read gives
 
-  read-on : (typed nine : List ℕ) (room : ℕ) → stored typed ≡ some nine → readOn G d typed room ≡ gives (head? (filter (named nine) (b .files))) room
+  pub read-on : (typed nine : List ℕ) (room : ℕ) → stored typed ≡ some nine → readOn G d typed room ≡ gives (head? (filter (named nine) (b .files))) room
   unfolding readOn asFile gives says _orRefuse_ _>>=_ _>>_ refuse_if_
   read-on typed nine room e =
       rw (e, laid-sound (st .laid)) (case (find G d nine) ∙ ap (λ (o : Option File). gives o room) (sym (look nine)))

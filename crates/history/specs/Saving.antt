@@ -38,7 +38,8 @@ pub record Saving (G : Geometry) (d : Disc) (dir frees nine file extra rest : Li
   pub fresh : called nine (entriesOf d dir) ≡ 0
 
 -- what follows the first part of a chain
-chain-rest : {G : Geometry} {d : Disc} {p : Next} (ns ms : List ℕ) → 0 < length ns → Chain G d p (ns ++ ms) → Chain G d (linkOf G (sector d (lastOr 0 ns))) ms
+pub chain-rest : {G : Geometry} {d : Disc} {p : Next} (ns ms : List ℕ) → 0 < length ns → Chain G d p (ns ++ ms)
+    → Chain G d (linkOf G (sector d (lastOr 0 ns))) ms
 chain-rest [] ms h c = absurd (omega arith)
 chain-rest (n ∷ []) ms h (on e c) = c
 chain-rest (n ∷ m ∷ ns) ms h (on e c) = chain-rest (m ∷ ns) ms (omega arith) c
@@ -106,7 +107,7 @@ module _ {G : Geometry} {d : Disc} {dir frees nine file extra rest : List ℕ} {
     saved-free = ap (λ (r : List ℕ). pairAt G r freePlace) at-zero ∙ system-free G (v .bounded) d full-system _ to-rest _ _
 
     pub saved-directory : directoryPointer G d′ ≡ directoryPointer G d
-    saved-directory = ap (λ (r : List ℕ). pairAt G r directoryPlace) at-zero ∙ system-directory G (v .bounded) d full-system _ to-rest _ _
+    saved-directory = ap (λ (r : List ℕ). pairAt G r directoryPlace) at-zero ∙ system-directory G d _ _ _
 
     pub saved-freed : freeCount d′ ≡ length rest
     saved-freed =

@@ -6,10 +6,10 @@ use Prim.Native.Nat.{ℕ, _≤_, _<_}
 use native.Mathlib.Omega.{arith}
 use native.Mathlib.Decide.{ℕ-discrete}
 use mathlib.Core.List.{List, [], _∷_, map, _++_}
-use lib.ListN.{length, set, length-set}
-use Rattle.format.specs.Lists.{times}
-use Rattle.format.specs.ListLaws.{All, done, _also_, head-of, tail-of, times-here, times-past}
-use Rattle.format.specs.Geometry.{Geometry, sectors, Next, Disc, sector, Write, written}
+use lib.ListN.{length, getD, set, take, drop, length-set, length-map}
+use Rattle.format.specs.Lists.{times, lastOr}
+use Rattle.format.specs.ListLaws.{All, done, _also_, head-of, tail-of, all-map, times-none, times-here, times-past}
+use Rattle.format.specs.Geometry.{Geometry, sectors, Next, stop, go, Disc, sector, Write, written}
 use Rattle.format.specs.GeometryLaws.{sector-other, sector-same, Full, full-set}
 use Rattle.format.specs.Layout.{linkBytes, linkOf}
 use Rattle.format.specs.ChainLaws.{Chain, end, on}
@@ -54,3 +54,29 @@ module _ (G : Geometry) where
         on refl (subst (λ (q : Next). Chain G (written (chained G ns bs) d₁) q ns) (sym (ap (linkOf G) here ∙ made-link G u lead b)) (rest .0)),
         ap₂ (λ (a : List ℕ) (r : List (List ℕ)). a ∷ r) (ap body here) (rest .1),
       )
+
+  -- each of them holds the body that is written
+  pub chained-bodies : Bounded G → (f : ℕ → List ℕ) (ns : List ℕ) (d : Disc) → All (λ n. n < sectors G) ns → length d ≡ sectors G → ((n : ℕ) → times n ns ≤ 1)
+      → (n : ℕ) → 0 < times n ns → body (sector (written (chained G ns (map f ns)) d) n) ≡ f n
+  chained-bodies u f ns d below many once n h =
+      same-at (λ m. body (sector (written (chained G ns (map f ns)) d) m)) ns (chained-chain u ns (map f ns) d (sym (length-map ns f)) below many once .1) h
+    where
+      same-at : (g : ℕ → List ℕ) (xs : List ℕ) → map g xs ≡ map f xs → 0 < times n xs → g n ≡ f n
+      same-at g [] e h = absurd (omega (arith, times-none n))
+      same-at g (x ∷ xs) e h =
+          elim (ℕ-discrete n x) [
+            | yes q ↦ ap g q ∙ ap (λ (r : List (List ℕ)). getD r 0 []) e ∙ ap f (sym q)
+            | no q ↦ same-at g xs (ap (drop 1) e) (omega (arith, times-past n x xs q))
+          ]
+
+  -- the last of them has a link of zeros
+  pub chained-ends : (ns : List ℕ) (bs : List (List ℕ)) (d : Disc) → length ns ≡ length bs → All (λ n. n < length d) ns → 0 < length ns
+      → take 2 (sector (written (chained G ns bs) d) (lastOr 0 ns)) ≡ 0 ∷ 0 ∷ []
+  unfolding chained
+  chained-ends [] bs d e below h = absurd (omega arith)
+  chained-ends (n ∷ ns) [] d e below h = absurd (omega arith)
+  chained-ends (n ∷ []) (b ∷ []) d e below h = ap (take 2) (sector-same d n (linkBytes G stop ++ b) (head-of below))
+  chained-ends (n ∷ []) (b ∷ c ∷ bs) d e below h = absurd (omega arith)
+  chained-ends (n ∷ m ∷ ns) (b ∷ bs) d e below h =
+      let w : List ℕ = linkBytes G (go m) ++ b in
+      chained-ends (m ∷ ns) bs (set d n w) (omega arith) (all-map (λ i k. omega (arith, length-set d n w)) (tail-of below)) (omega arith)

@@ -1,4 +1,5 @@
 pub mod Counts
+pub mod Passing
 pub mod Places
 pub mod Stores
 pub mod NameCounts
@@ -15,3 +16,4 @@ pub mod ChainWrites
 pub mod ListedWrites
 pub mod CopiedOut
 pub mod SavedList
+pub mod Reported

@@ -138,7 +138,7 @@ module _ (G : Geometry) (d : Disc) where
     pub taken-places : places (saveWrites G d nine m) ≡ 0 ∷ allTaken m ++ entryHome (openSlot G d) ∷ []
     taken-places = saved-places (openSlot G d) refl ∙ ap (λ (r : List ℕ). 0 ∷ r) (as-taken (openSlot G d) refl)
 
-  home-lies : Savable G d → (o : Option Slot) → openSlot G d ≡ o → 0 < times (entryHome o) (directory G d)
+  pub home-lies : Savable G d → (o : Option Slot) → openSlot G d ≡ o → 0 < times (entryHome o) (directory G d)
   home-lies v (some s) e = v .open-home s e
   home-lies v none e = last-of (directory G d) (v .some-directory)
 

@@ -1,7 +1,7 @@
 -- The system sector with another free pointer and other counts: what is read from it.
 -- Assumes nothing.
 use mathlib.Core.Path.{_≡_, refl, ap, ap₂, _∙_}
-use Prim.Native.Nat.{ℕ, _+_, _*_, _<_}
+use Prim.Native.Nat.{ℕ, _+_, _*_, _≤_, _<_}
 use native.Mathlib.Omega.{arith}
 use mathlib.Core.List.{List, _++_}
 use lib.ListN.{length}
@@ -38,12 +38,10 @@ module _ (G : Geometry) (u : Bounded G) (d : Disc) (full : length (system d) ≡
   unfolding sys′ mid
   system-free = ap₂ (λ (a b : ℕ). pointed G a b) (before (freePlace + 1) (omega arith)) (before freePlace (omega arith)) ∙ pair-stored G u (system d) freePlace l (omega arith)
 
-  pub system-directory : pairAt G (systemWrite G d p freed used .bytes) directoryPlace ≡ directoryPointer G d
+  -- the two bytes of the free pointer
+  pub system-pair : (k : ℕ) → k < 2 → byte (systemWrite G d p freed used .bytes) (freePlace + k) ≡ byte (pairBytes G p) k
   unfolding sys′ mid
-  system-directory =
-      ap₂ (λ (a b : ℕ). pointed G a b)
-      (before (directoryPlace + 1) (omega arith) ∙ getD-sets-off (pairBytes G p) (system d) freePlace (directoryPlace + 1) 0 (λ a. omega arith))
-      (before directoryPlace (omega arith) ∙ getD-sets-off (pairBytes G p) (system d) freePlace directoryPlace 0 (λ a. omega arith))
+  system-pair k h = before (freePlace + k) (omega arith) ∙ getD-sets-in (pairBytes G p) (system d) freePlace k 0 h (omega arith)
 
   pub system-freed : freed < 65536 → wordAt (systemWrite G d p freed used .bytes) freeCountPlace ≡ freed
   unfolding sys′
@@ -56,3 +54,17 @@ module _ (G : Geometry) (u : Bounded G) (d : Disc) (full : length (system d) ≡
   pub system-length : length (systemWrite G d p freed used .bytes) ≡ 256
   unfolding sys′
   system-length = ap length sys-is ∙ length-sets mid freeCountPlace (word freed ++ word used) ∙ mid-length
+
+-- all but the free pointer and the counts stays
+pub system-others : (G : Geometry) (d : Disc) (p : Next) (a b k : ℕ) → (freePlace ≤ k → freePlace + 2 ≤ k) → (freeCountPlace ≤ k → freeCountPlace + 4 ≤ k)
+    → byte (systemWrite G d p a b .bytes) k ≡ byte (system d) k
+unfolding systemWrite
+system-others G d p a b k h i =
+    getD-sets-off (word a ++ word b) (sets (system d) freePlace (pairBytes G p)) freeCountPlace k 0 i ∙ getD-sets-off (pairBytes G p) (system d) freePlace k 0 h
+
+-- so the directory pointer does
+pub system-directory : (G : Geometry) (d : Disc) (p : Next) (a b : ℕ) → pairAt G (systemWrite G d p a b .bytes) directoryPlace ≡ directoryPointer G d
+system-directory G d p a b =
+    let stays : (k : ℕ) → directoryPlace ≤ k → k < freeCountPlace → byte (systemWrite G d p a b .bytes) k ≡ byte (system d) k =
+    λ k h i. system-others G d p a b k (λ _. omega arith) (λ j. absurd (omega arith)) in
+    ap₂ (λ (a b : ℕ). pointed G a b) (stays (directoryPlace + 1) (omega arith) (omega arith)) (stays directoryPlace (omega arith) (omega arith))

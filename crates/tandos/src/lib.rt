@@ -6,7 +6,7 @@ use fsck::Checked;
 use reading::Reading;
 ghost use mathlib.Core.Path.{_≡_};
 ghost use Rattle.format.specs.Geometry.{stated};
-ghost use Rattle.format.specs.Calls.{answered, afterCheck, afterList, afterRead, afterSave, afterDelete, afterRename, afterProtect, afterReplay, afterBlank, viewNumber, viewPart};
+ghost use Rattle.format.specs.Calls.{answered, afterCheck, afterList, afterRead, afterSave, afterDelete, afterRename, afterProtect, afterReplay, afterRepair, afterBlank, viewNumber, viewPart};
 ghost use Rattle.answers.specs.Meaning.{changeAnswer};
 ghost use Rattle.listing.specs.Meaning.{listAnswer};
 ghost use Rattle.reading.specs.Answer.{readAnswer};
@@ -171,6 +171,18 @@ pub extern "C" fn tandos_replay(
         arrangement,
     };
     replaying::replay(image, kind, writes)
+}
+
+// Threads every sector that neither the directory nor a file meets into a new free chain.
+#[no_mangle]
+pub extern "C" fn tandos_repair(image: &mut [u8], sectors: u32, arrangement: u32) -> u32
+    ensures { λ r. ⌜ answered r (now (image .exit)) ≡ afterRepair (stated sectors arrangement) (now (image .entry)) ⌝ }
+{
+    let kind = Stated {
+        sectors,
+        arrangement,
+    };
+    repairing::repair(image, kind)
 }
 
 #[no_mangle]

@@ -4,15 +4,18 @@
 //! trace SEED COUNT MAX_TRACKS            runs on sound discs
 //! trace damaged SEED COUNT MAX_TRACKS    damaged images and their check
 //! trace refused SEED COUNT MAX_TRACKS    runs on damaged images
+//! trace repaired SEED COUNT MAX_TRACKS   one repair each of images of all kinds
 //! trace totals SEED COUNT                runs of weekly totals
 //! ```
 //!
-//! In front of the first three may stand, in any order, the two numbers stated with
+//! In front of the first four may stand, in any order, the two numbers stated with
 //! every call: `--sectors N`, 10 as without it, or 9; and `--arrangement N`, 0
 //! plain as without it, or 1 moved; and `--replays N`: about one command in N is a
-//! replay, none with 0, as without it. If N is given twice, the last counts. With
-//! other numbers stated, or 9 and 1, the images are plain, of nine sectors if `--sectors`
-//! is 9 and else of ten, and every call is refused with 1.
+//! replay, none with 0, as without it; and `--cuts N`: about one in N of the
+//! commands that list their writes is cut, and repairs come, with and without a
+//! cut before; none with 0, as without it. If N is given twice, the last counts.
+//! With other numbers stated, or 9 and 1, the images are plain, of nine sectors if
+//! `--sectors` is 9 and else of ten, and every call is refused with 1.
 //!
 //! Fields are parted by one space. HEX is two digits a byte, upper case, and
 //! `-` for no bytes; every other field is decimal. A run begins with
@@ -39,12 +42,16 @@
 //! rename OLD NEW LENT FILL = NUMBER LENGTH LIST
 //! protect NAME ON LENT FILL = NUMBER LENGTH LIST
 //! replay LIST = NUMBER
+//! repair = NUMBER
 //! blank NAME = NUMBER
 //! view TRACK SECTOR = NUMBER START BYTES
 //! ```
 //!
 //! NAME, OLD, NEW, SHEET and BYTES are HEX. A view's START is the position in the
-//! image of its first byte, 0 if it is refused. After each command stand the
+//! image of its first byte, 0 if it is refused. After a command that is cut stands
+//! a line with how many of its writes were MADE, from 0 to all, and whether the
+//! command counts as DONE, 1 or 0. From there on the image is that before the
+//! command with those writes made. After each command, and its cut, stand the
 //! sectors of the image that it changed, with all 256 bytes after the call and
 //! ascending by sector number SECTORS times t + s - 1; that is the number on
 //! the disc, not the place in the image, which the arrangement decides. Then the
@@ -52,8 +59,11 @@
 //! free-sector sum by the book of the run. `moment none` stands while the image
 //! has not been sound since the run began, or since its last accepted replay: the
 //! next sound image is a new start. An accepted blank starts the book anew too.
+//! It stands also, sound or not, from a cut to the next accepted repair, replay or
+//! blank.
 //!
 //! ```text
+//! cut MADE DONE
 //! sector NUMBER HEX
 //! moment FREE DIRECTORY FILES
 //! ```
@@ -83,19 +93,22 @@
 //! The last line of all is `end COUNT`.
 
 use reference::command::{Answer, Buffer, Command};
-use reference::generate::{damaged_disc, sound_disc, totals_run, Random, Replays, TotalsRun};
+use reference::cuts::{counts_as_done, write_count, Step};
+use reference::generate::{damaged_disc, repair_disc, sound_disc, totals_run};
+use reference::generate::{Cuts, Random, Replays, TotalsRun};
 use reference::history::{Book, History};
 use reference::totals_book::TotalsBook;
 use std::io::{self, BufWriter, Write};
 use std::process::ExitCode;
 
-const USAGE: &str =
-    "usage: trace [--sectors N] [--arrangement N] [--replays N] [damaged|refused] SEED COUNT MAX_TRACKS
+const USAGE: &str = "usage: trace [--sectors N] [--arrangement N] [--replays N] [--cuts N]
+             [damaged|refused|repaired] SEED COUNT MAX_TRACKS
        trace totals SEED COUNT";
 /// Stated unless the options say otherwise.
 const SECTORS: u32 = 10;
 const ARRANGEMENT: u32 = 0;
 const NO_REPLAYS: usize = 0;
+const NO_CUTS: usize = 0;
 const MOST_COMMANDS: usize = 12;
 const MOST_SHEETS: usize = 6;
 /// Records of five bytes: sheets of some 200 bytes, or some 2,000.
@@ -107,6 +120,7 @@ enum Mode {
     Sound,
     Damaged,
     Refused,
+    Repaired,
 }
 
 enum Request {
@@ -119,6 +133,8 @@ struct Discs {
     arrangement: u32,
     /// One command in so many is a replay; 0 for none.
     replays: usize,
+    /// One listing command in so many is cut; 0 for none.
+    cuts: usize,
     mode: Mode,
     seed: u64,
     count: usize,
@@ -159,12 +175,14 @@ fn parse(arguments: &[String]) -> Option<Request> {
 }
 
 fn parse_discs(mut arguments: &[String]) -> Option<Discs> {
-    let (mut sectors, mut arrangement, mut replays) = (SECTORS, ARRANGEMENT, NO_REPLAYS);
+    let (mut sectors, mut arrangement) = (SECTORS, ARRANGEMENT);
+    let (mut replays, mut cuts) = (NO_REPLAYS, NO_CUTS);
     while let [word, number, rest @ ..] = arguments {
         match word.as_str() {
             "--sectors" => sectors = number.parse().ok()?,
             "--arrangement" => arrangement = number.parse().ok()?,
             "--replays" => replays = number.parse().ok()?,
+            "--cuts" => cuts = number.parse().ok()?,
             _ => break,
         }
         arguments = rest;
@@ -172,6 +190,7 @@ fn parse_discs(mut arguments: &[String]) -> Option<Discs> {
     let (mode, numbers) = match arguments.first().map(String::as_str) {
         Some("damaged") => (Mode::Damaged, &arguments[1..]),
         Some("refused") => (Mode::Refused, &arguments[1..]),
+        Some("repaired") => (Mode::Repaired, &arguments[1..]),
         _ => (Mode::Sound, arguments),
     };
     match numbers {
@@ -179,6 +198,7 @@ fn parse_discs(mut arguments: &[String]) -> Option<Discs> {
             sectors,
             arrangement,
             replays,
+            cuts,
             mode,
             seed: seed.parse().ok()?,
             count: count.parse().ok()?,
@@ -198,38 +218,76 @@ fn trace_discs(request: &Discs, out: &mut impl Write) -> io::Result<()> {
             Mode::Damaged | Mode::Refused => {
                 damaged_disc(&mut random, max_tracks, sectors, arrangement)
             }
+            Mode::Repaired => repair_disc(&mut random, max_tracks, sectors, arrangement),
         };
         let checked = reference::check(&image, sectors, arrangement);
         writeln!(out, "image {sectors} {arrangement} {}", hex(&image))?;
         writeln!(out, "check {} {}", checked.number, checked.rule)?;
-        if request.mode != Mode::Damaged {
-            run(&mut random, &mut image, request, out)?;
+        match request.mode {
+            Mode::Damaged => {}
+            Mode::Repaired => Run::start(&mut image, request, out)?.repair()?,
+            Mode::Sound | Mode::Refused => {
+                Run::start(&mut image, request, out)?.any_steps(&mut random)?;
+            }
         }
     }
     writeln!(out, "end {}", request.count)
 }
 
-fn run(
-    random: &mut Random,
-    image: &mut [u8],
-    request: &Discs,
-    out: &mut impl Write,
-) -> io::Result<()> {
-    let (sectors, arrangement) = (request.sectors, request.arrangement);
-    let mut replays = Replays::one_in(request.replays);
-    let mut history = History::start(image, sectors, arrangement);
-    print_moment(image, history.book(), out)?;
-    for _ in 0..random.between(1, MOST_COMMANDS) {
-        let command = replays.command(random, image, sectors, arrangement);
-        let before = by_number(image, sectors, arrangement);
-        let answer = command.run(image, sectors, arrangement);
-        writeln!(out, "{} = {}", arguments(&command), answers(&answer))?;
-        print_changes(&before, &by_number(image, sectors, arrangement), out)?;
-        history.record(&command, answer.accepted(), image);
-        replays.heard(&answer);
+/// A run as it is printed, step by step.
+struct Run<'a, W> {
+    image: &'a mut [u8],
+    request: &'a Discs,
+    history: History,
+    out: &'a mut W,
+}
+
+impl<'a, W: Write> Run<'a, W> {
+    fn start(image: &'a mut [u8], request: &'a Discs, out: &'a mut W) -> io::Result<Run<'a, W>> {
+        let history = History::start(image, request.sectors, request.arrangement);
         print_moment(image, history.book(), out)?;
+        Ok(Run {
+            image,
+            request,
+            history,
+            out,
+        })
     }
-    Ok(())
+
+    fn repair(&mut self) -> io::Result<()> {
+        self.step(&Step::whole(Command::Repair)).map(|_| ())
+    }
+
+    fn any_steps(&mut self, random: &mut Random) -> io::Result<()> {
+        let (sectors, arrangement) = (self.request.sectors, self.request.arrangement);
+        let mut replays = Replays::one_in(self.request.replays);
+        let mut cuts = Cuts::one_in(self.request.cuts);
+        for _ in 0..random.between(1, MOST_COMMANDS) {
+            let step = cuts.step(random, &mut replays, self.image, sectors, arrangement);
+            let answer = self.step(&step)?;
+            replays.heard(&answer);
+            cuts.heard(&step, &answer);
+        }
+        Ok(())
+    }
+
+    fn step(&mut self, step: &Step) -> io::Result<Answer> {
+        let (sectors, arrangement) = (self.request.sectors, self.request.arrangement);
+        let before = by_number(self.image, sectors, arrangement);
+        let answer = step.run(self.image, sectors, arrangement);
+        let (left, right) = (arguments(&step.command), answers(&answer));
+        writeln!(self.out, "{left} = {right}")?;
+        if let (Some(made), Some(list)) = (step.cut, answer.list_of_writes()) {
+            let writes = write_count(self.image, sectors, arrangement, list);
+            let done = writes.and_then(|writes| counts_as_done(&step.command, writes, made));
+            writeln!(self.out, "cut {made} {}", u8::from(done == Some(true)))?;
+        }
+        let after = by_number(self.image, sectors, arrangement);
+        print_changes(&before, &after, self.out)?;
+        self.history.record_step(step, &answer, self.image);
+        print_moment(self.image, self.history.book(), self.out)?;
+        Ok(answer)
+    }
 }
 
 fn print_moment(image: &[u8], book: Option<&Book>, out: &mut impl Write) -> io::Result<()> {
@@ -284,6 +342,7 @@ fn arguments(command: &Command) -> String {
             format!("protect {} {on} {}", hex(name), lent(writes))
         }
         Command::Replay { writes } => format!("replay {}", hex(writes)),
+        Command::Repair => "repair".to_string(),
         Command::Blank { name } => format!("blank {}", hex(name)),
         Command::View { track, sector } => format!("view {track} {sector}"),
     }

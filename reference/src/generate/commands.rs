@@ -54,7 +54,7 @@ pub fn command_list(
         .collect()
 }
 
-/// A command for an image of any length, never a replay.
+/// A command for an image of any length, never a replay or a repair.
 pub fn command(random: &mut Random, image: &[u8], sectors: u32, arrangement: u32) -> Command {
     let target = Target::new(image, sectors, arrangement);
     match random.below(40) {
@@ -219,7 +219,8 @@ fn list(random: &mut Random, target: Target<'_>) -> Command {
     }
 }
 
-fn blank(random: &mut Random) -> Command {
+/// Mostly refused.
+pub fn blank(random: &mut Random) -> Command {
     const NAMES: [&[u8]; 8] = [
         b"A",
         b"PIECES",

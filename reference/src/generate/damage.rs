@@ -121,7 +121,7 @@ pub fn break_rule(
 }
 
 /// 0/1, or an address just off the disc.
-fn stray(random: &mut Random, disc: Disc<'_>) -> Address {
+pub fn stray(random: &mut Random, disc: Disc<'_>) -> Address {
     let tracks = disc.tracks() as u8;
     let last = disc.format().sectors_per_track();
     let (track, sector) = match random.below(6) {
@@ -143,7 +143,7 @@ fn elsewhere(random: &mut Random, disc: Disc<'_>) -> Address {
     disc.address(Sector::numbered(random.below(disc.sectors())))
 }
 
-fn some_of<T: Copy>(random: &mut Random, items: &[T]) -> Option<T> {
+pub fn some_of<T: Copy>(random: &mut Random, items: &[T]) -> Option<T> {
     (!items.is_empty()).then(|| random.pick(items))
 }
 

@@ -3,7 +3,8 @@
 
 use reference::history::Book;
 use reference::{
-    blank, check, list, read, replay, view, view_number, view_start, Checked, Filled, Reading,
+    blank, check, list, read, repair, replay, view, view_number, view_start, Checked, Filled,
+    Reading,
 };
 
 /// The numbers of sectors a track.
@@ -269,5 +270,6 @@ fn refused_by_writing_calls(image: &[u8], sectors: u32, arrangement: u32) {
     for list in [&b"\0"[..], b"", b"\x03", b"\0\0"] {
         assert_eq!(replay(&mut lent, sectors, arrangement, list), 1);
     }
+    assert_eq!(repair(&mut lent, sectors, arrangement), 1);
     assert_eq!(lent, image);
 }

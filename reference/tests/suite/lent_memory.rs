@@ -1,7 +1,7 @@
 //! Bytes around what is lent stay, and what is only read stays as well.
 
 use crate::common::{delete, protect, rename, save, small, ONE_SLOT, PLAIN, TEN};
-use reference::{blank, list, read};
+use reference::{blank, list, read, repair};
 
 const GUARD: usize = 600;
 
@@ -39,6 +39,9 @@ fn writing_commands_keep_the_guard_bytes() {
         guarded(&image[..2559], |lent| blank(lent, TEN, PLAIN, b"N")),
         1
     );
+    assert_eq!(guarded(&image, |lent| repair(lent, TEN, PLAIN)), 0);
+    assert_eq!(guarded(&image[..2559], |lent| repair(lent, TEN, PLAIN)), 1);
+    assert_eq!(guarded(&[0; 2560], |lent| repair(lent, TEN, PLAIN)), 3);
 }
 
 #[test]

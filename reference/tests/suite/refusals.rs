@@ -2,7 +2,8 @@
 //! that a refusal leaves all lent memory as it was.
 
 use crate::common::{delete, position, protect, rename, save, small, ONE_SLOT, PLAIN, TEN};
-use reference::{blank, check, list, read, view, view_number, Checked, Filled, Reading};
+use reference::{blank, check, list, read, repair, view, view_number};
+use reference::{Checked, Filled, Reading};
 
 /// Wrong by one byte, and otherwise like `small`.
 fn wrong_size() -> Vec<u8> {
@@ -63,6 +64,10 @@ fn protected(image: &[u8], name: &[u8]) -> u32 {
 
 fn blanked(image: &[u8], name: &[u8]) -> u32 {
     number_of(image, |after| blank(after, TEN, PLAIN, name))
+}
+
+fn repaired(image: &[u8]) -> u32 {
+    number_of(image, |lent| repair(lent, TEN, PLAIN))
 }
 
 fn read_number(image: &[u8], name: &[u8], lent: usize) -> u32 {
@@ -294,6 +299,7 @@ fn every_command_refuses_every_wrong_size() {
         assert_eq!(renamed(&image, b"ONE", b"NEW"), 1);
         assert_eq!(protected(&image, b"ONE"), 1);
         assert_eq!(blanked(&image, b"D"), 1);
+        assert_eq!(repaired(&image), 1);
         assert_eq!(viewed(&image, 0, 1), 1);
     }
 }
@@ -329,7 +335,8 @@ fn every_broken_rule_gives_3() {
         .map(|image| check(image, TEN, PLAIN).rule)
         .collect();
     assert_eq!(rules, [1, 2, 3, 5, 6, 7, 5, 4, 8]);
-    for image in images {
+    for (image, rule) in images.into_iter().zip(rules) {
+        assert_eq!(repaired(&image), if rule <= 5 { 3 } else { 0 });
         assert_eq!(saved(&image, b"NEW", 0, 0, 1), 3);
         assert_eq!(read_number(&image, b"ONE", 3), 3);
         assert_eq!(list_number(&image, 41), 3);

@@ -1,6 +1,6 @@
 //! The trace program: its text is read back and every run replayed from it.
 
-use crate::common::{moved_position, position, MOVED, NINE, PLAIN, TEN};
+use crate::common::{moved_position, position, rewritten, MOVED, NINE, PLAIN, TEN};
 use reference::command::{Answer, Buffer, Command};
 use std::process::Command as Process;
 
@@ -63,6 +63,7 @@ fn parse(fields: &[&str]) -> Command {
         ["replay", list] => Command::Replay {
             writes: bytes(list),
         },
+        ["repair"] => Command::Repair,
         ["blank", name] => Command::Blank { name: bytes(name) },
         ["view", track, sector] => Command::View {
             track: number(track),
@@ -135,6 +136,14 @@ struct Replay {
     told: Vec<u8>,
     images: usize,
     commands: usize,
+    /// The image before the last command, the command's word, and its list.
+    before: Vec<u8>,
+    word: String,
+    list: Vec<u8>,
+    /// From a cut to the next accepted repair, replay or blank.
+    cut: bool,
+    /// How often a list was cut after no write, within it, and after all.
+    cuts: [usize; 3],
 }
 
 impl Replay {
@@ -146,8 +155,10 @@ impl Replay {
                 self.arrangement = number(arrangement);
                 self.made = bytes(image);
                 self.told = self.made.clone();
+                self.cut = false;
                 self.images += 1;
             }
+            ["cut", made, done] => self.pull(number(made), done),
             ["sector", at, sector] => {
                 let start = self.start(number(at));
                 let told = bytes(sector);
@@ -159,7 +170,8 @@ impl Replay {
             }
             ["moment", "none"] => {
                 let checked = reference::check(&self.made, self.sectors, self.arrangement);
-                assert_ne!((checked.number, checked.rule), (0, 0));
+                assert!(self.cut || (checked.number, checked.rule) != (0, 0));
+                assert!(self.made == self.told);
             }
             ["moment", free, directory, files] => self.moment([free, directory, files]),
             ["end", count] => assert_eq!(number::<usize>(count), self.images),
@@ -178,8 +190,29 @@ impl Replay {
         }
     }
 
+    /// The card is pulled: the first writes of the list are made of the image
+    /// before the command.
+    fn pull(&mut self, made: usize, done: &str) {
+        let writes = self.list.len() / 259;
+        let part = [&self.list[..259 * made], &[0]].concat();
+        self.made = rewritten(&self.before, self.sectors, self.arrangement, &part);
+        let counts = match self.word.as_str() {
+            "save" => made == writes,
+            "delete" | "rename" | "protect" => made > 0,
+            other => panic!("a cut of {other}"),
+        };
+        assert_eq!(done, if counts { "1" } else { "0" });
+        self.cut = true;
+        let kind = if made == 0 {
+            0
+        } else {
+            1 + usize::from(made == writes)
+        };
+        self.cuts[kind] += 1;
+    }
+
     fn moment(&self, fields: [&str; 3]) {
-        assert!(self.made == self.told);
+        assert!(self.made == self.told && !self.cut);
         let [free, directory, files] = fields.map(number::<usize>);
         let count = u16::from_le_bytes([self.made[0x14], self.made[0x15]]);
         assert_eq!(usize::from(count), free);
@@ -189,8 +222,13 @@ impl Replay {
     fn command(&mut self, fields: &[&str]) {
         let equals = fields.iter().position(|&field| field == "=").expect("=");
         let command = parse(&fields[..equals]);
+        self.before = self.made.clone();
+        self.word = fields[0].to_string();
         let answer = command.run(&mut self.made, self.sectors, self.arrangement);
         assert!(same(&answer, &fields[equals + 1..]), "{fields:?}");
+        self.list = answer.list_of_writes().unwrap_or(&[]).to_vec();
+        let ends = ["repair", "replay", "blank"].contains(&fields[0]);
+        self.cut &= !(ends && answer.accepted());
         self.commands += 1;
     }
 }
@@ -240,6 +278,46 @@ fn runs_with_replays() {
     let without = trace(&["6", "150", "6"]);
     assert!(!without.iter().any(|line| line.starts_with("replay ")));
     assert!(trace(&["--replays", "0", "6", "150", "6"]) == without);
+}
+
+#[test]
+fn runs_with_cuts_and_repairs() {
+    for (front, mode) in [
+        (&["--cuts", "2"][..], &[][..]),
+        (&["--arrangement", "1", "--cuts", "2"], &[]),
+        (&["--cuts", "2", "--sectors", "9"], &[]),
+        (&["--cuts", "2", "--replays", "5"], &[]),
+        (&["--cuts", "2", "--replays", "5"], &["refused"]),
+    ] {
+        let arguments = [front, mode, &["7", "200", "6"]].concat();
+        let replayed = replay(&arguments);
+        assert_eq!(replayed.images, 200);
+        // Most damaged images accept neither a repair nor what could be cut.
+        let (least_cuts, least_repairs) = if mode.is_empty() { (10, 80) } else { (3, 30) };
+        let few = replayed.cuts.iter().any(|&times| times < least_cuts);
+        assert!(!few, "{front:?} {mode:?}: {:?}", replayed.cuts);
+        let lines = trace(&arguments);
+        let repairs = lines.iter().filter(|line| *line == "repair = 0").count();
+        assert!(repairs > least_repairs, "{front:?} {mode:?}: {repairs}");
+    }
+    let without = trace(&["7", "200", "6"]);
+    let of_cuts = |line: &String| line.starts_with("repair ") || line.starts_with("cut ");
+    assert!(!without.iter().any(of_cuts));
+    assert!(trace(&["--cuts", "0", "7", "200", "6"]) == without);
+}
+
+#[test]
+fn one_repair_each() {
+    for option in FORMATS {
+        let arguments = [&option[..], &["repaired", "5", "300", "8"]].concat();
+        let replayed = replay(&arguments);
+        assert_eq!((replayed.images, replayed.commands), (300, 300));
+        let lines = trace(&arguments);
+        for (line, least) in [("repair = 0", 150), ("repair = 1", 1), ("repair = 3", 30)] {
+            let times = lines.iter().filter(|printed| *printed == line).count();
+            assert!(times >= least, "{option:?} {line}: {times}");
+        }
+    }
 }
 
 #[test]
@@ -295,7 +373,7 @@ fn numbers_that_are_no_format_get_plain_images() {
         (["--sectors", "9", "--arrangement", "1"], "9"),
         (["--sectors", "9", "--arrangement", "257"], "9"),
     ] {
-        for mode in [&[][..], &["damaged"], &["refused"]] {
+        for mode in [&[][..], &["damaged"], &["refused"], &["repaired"]] {
             let rest = &[mode, &["17", "40", "11"]].concat();
             let plain = &["--sectors", of];
             let bytes = |front: &[&str]| -> Vec<String> {
@@ -306,7 +384,8 @@ fn numbers_that_are_no_format_get_plain_images() {
             };
             let (made, of_plain) = (bytes(&front), bytes(plain));
             // Accepted commands lead the seed elsewhere after the first run.
-            let same = if mode == ["damaged"] { 40 } else { 1 };
+            let drawn_alone = mode == ["damaged"] || mode == ["repaired"];
+            let same = if drawn_alone { 40 } else { 1 };
             assert!(made[..same] == of_plain[..same], "{front:?} {mode:?}");
         }
     }
@@ -324,7 +403,7 @@ fn numbers_that_are_no_format_refuse_every_call() {
         &["--sectors", "4294967295", "--arrangement", "1"],
         &["--sectors", "9", "--arrangement", "1"],
     ] {
-        let arguments = [front, &["refused", "5", "60", "3"]].concat();
+        let arguments = [front, &["--cuts", "3", "refused", "5", "60", "3"]].concat();
         let replayed = replay(&arguments);
         assert!(replayed.commands > 200, "{}", replayed.commands);
         for line in trace(&arguments) {
@@ -332,7 +411,7 @@ fn numbers_that_are_no_format_refuse_every_call() {
             let answered = fields.iter().position(|&field| field == "=");
             match answered {
                 Some(equals) => assert_eq!(fields[equals + 1], "1", "{line}"),
-                None => assert_ne!(fields[0], "sector"),
+                None => assert!(!["sector", "cut"].contains(&fields[0])),
             }
         }
     }
@@ -355,7 +434,14 @@ fn without_places(arguments: &[&str]) -> Vec<String> {
 
 #[test]
 fn a_seed_gives_the_same_runs_in_either_arrangement() {
-    for mode in [&[][..], &["damaged"], &["refused"], &["--replays", "3"]] {
+    for mode in [
+        &[][..],
+        &["damaged"],
+        &["refused"],
+        &["repaired"],
+        &["--replays", "3"],
+        &["--cuts", "2"],
+    ] {
         let lines = |number| {
             let front = ["--arrangement", number];
             without_places(&[&front[..], mode, &["11", "60", "5"]].concat())
@@ -487,6 +573,11 @@ fn wrong_arguments_are_refused() {
         &["--replays", "1", "2", "3"],
         &["--replays", "x", "1", "2", "3"],
         &["--replays", "3", "totals", "1", "2"],
+        &["--cuts", "1", "2", "3"],
+        &["--cuts", "x", "1", "2", "3"],
+        &["--cuts", "3", "totals", "1", "2"],
+        &["repaired", "1", "2"],
+        &["repaired", "--cuts", "1", "1", "2", "3"],
         &["--sectors", "4294967296", "1", "2", "3"],
         &["1", "2", "3", "--sectors", "9"],
     ] {

@@ -10,9 +10,11 @@ use Rattle.format.specs.Geometry.{Next, go}
 use Rattle.format.specs.Layout.{pairBytes}
 use Rattle.format.specs.Effects.{headOf, passing}
 use Rattle.disc.specs.Meaning.{geo}
-use Rattle.disc.specs.Laws.{number-on, stop-sector}
-use Rattle.blank.specs.Meaning.{Passed}
-use Rattle.blank.specs.Links.{directory-on, passed-here, free-is}
+use Rattle.disc.specs.Laws.{number-on}
+use Rattle.passing.specs.Meaning.{Passed}
+use Rattle.passing.specs.Stops.{stop-sector}
+use Rattle.passing.specs.Places.{passed-here}
+use Rattle.blank.specs.Links.{directory-on, free-is}
 use Rattle.blank.proofs.pointers.Statement.{statement}
 use Rattle.blank.proofs.pointers.Tie as tie
 

@@ -13,7 +13,7 @@ use Rattle.format.specs.GeometryLaws.{length-cut, sector-again}
 use Rattle.format.specs.Layout.{freePlace, freeCountPlace, discNamePlace, versionPlace}
 use Rattle.format.specs.Effects.{version}
 use Rattle.disc.specs.Meaning.{geo, sectorsOf, storedAt, form}
-use Rattle.blank.specs.Links.{many}
+use Rattle.passing.specs.Places.{many}
 use Rattle.blank.specs.Laws.{system-is}
 use Rattle.blank.proofs.put_system.Statement.{statement}
 use Rattle.blank.proofs.put_system.Tie as tie

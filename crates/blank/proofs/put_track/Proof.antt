@@ -7,9 +7,11 @@ use mathlib.Core.Path.{_≡_, refl, _∙_}
 use lib.ListN.{length, getD, replicate}
 use Rattle.format.specs.Geometry.{sector, sectorNumber}
 use Rattle.format.specs.Effects.{body}
-use Rattle.disc.specs.Meaning.{geo, sectorsOf, Valid, Image, Stop}
-use Rattle.disc.specs.Laws.{stop-sector}
-use Rattle.blank.specs.Links.{next-track, passed-here, Linked, linked-none, linked-more, here-stop, here-bare, linked-here}
+use Rattle.disc.specs.Meaning.{geo, sectorsOf, Valid, Image}
+use Rattle.passing.specs.Meaning.{Stop}
+use Rattle.passing.specs.Stops.{stop-sector}
+use Rattle.passing.specs.Places.{next-track, passed-here, here-stop}
+use Rattle.blank.specs.Links.{Linked, linked-none, linked-more, here-bare, linked-here}
 use Rattle.blank.proofs.put_track.Statement.{statement}
 use Rattle.blank.proofs.put_track.Tie as tie
 

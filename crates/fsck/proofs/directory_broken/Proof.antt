@@ -45,7 +45,8 @@ is-elsewhere-requires c κs = search needs
 returns : tie.Need-returns
 returns c =
     let v = c .before .before .before .before .pre .0 .valid in
-    checked-broken 1 (omega arith) (broken-1 _ _ (rule1-is v _ (c .before .before .directory-start .ensures .0) (c .before .is-elsewhere .ensures) ∙ not-true _ (c .if1 .taken)))
+    let r1 = rule1-is v _ (c .before .before .directory-start .ensures .0) (c .before .is-elsewhere .ensures) ∙ not-true _ (c .if1 .taken) in
+    checked-broken 1 (omega arith) (omega arith) (broken-1 _ _ r1)
 
 step-to-requires : tie.Need-step-to-requires
 step-to-requires c κs = search needs
@@ -64,7 +65,7 @@ returns-2 c =
     let walked = c .before .before in
     let to = walked .before .before in
     let r2 = rule2-broken (valid to) _ (pointer to) (at-start (elsewhere to) .pre .1) (walked .follow .ensures) (c .enum-told2 .given .1) in
-    checked-broken 2 (omega arith) (broken-2 _ _ (holds-1 to) r2)
+    checked-broken 2 (omega arith) (omega arith) (broken-2 _ _ (holds-1 to) r2)
 
 -- ---- the walk came to an end
 
@@ -77,7 +78,7 @@ returns-3 c =
     let walked = told .before .before in
     let to = walked .before .before in
     let r2 = rule2-ended (valid to) _ (pointer to) (at-start (elsewhere to) .pre .1) (walked .follow .ensures) _ _ (told .enum-told .given .1) in
-    checked-broken 3 (omega arith) (broken-3 _ _ (holds-1 to) (r2 .0) (sym (c .before .entries-good .ensures) ∙ not-true _ (c .if2 .taken)))
+    checked-broken 3 (omega arith) (omega arith) (broken-3 _ _ (holds-1 to) (r2 .0) (sym (c .before .entries-good .ensures) ∙ not-true _ (c .if2 .taken)))
 
 names-differ-requires : tie.Need-names-differ-requires
 names-differ-requires c κs = search needs
@@ -90,7 +91,7 @@ returns-4 c =
     let to = walked .before .before in
     let r2 = rule2-ended (valid to) _ (pointer to) (at-start (elsewhere to) .pre .1) (walked .follow .ensures) _ _ (told .enum-told .given .1) in
     let r3 = sym (good .before .entries-good .ensures) ∙ not-false _ (good .if2 .left) in
-    checked-broken 4 (omega arith) (broken-4 _ _ (holds-1 to) (r2 .0) r3 (sym (c .before .names-differ .ensures) ∙ not-true _ (c .if3 .taken)))
+    checked-broken 4 (omega arith) (omega arith) (broken-4 _ _ (holds-1 to) (r2 .0) r3 (sym (c .before .names-differ .ensures) ∙ not-true _ (c .if3 .taken)))
 
 returns-5 : tie.Need-returns-5
 returns-5 c =

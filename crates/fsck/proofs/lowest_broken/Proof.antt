@@ -1,24 +1,35 @@
 -- `fsck::lowest_broken` meets its contract.
 -- Assumes nothing.
-use mathlib.Core.Path.{refl}
 use borrow.Author.Needs.{needs}
-use Rattle.fsck.specs.Marks.{marked}
-use Rattle.fsck.specs.Rules.{marksOf}
+use Rattle.fsck.specs.Rules.{stands-broken, stands-good}
 use Rattle.fsck.proofs.lowest_broken.Statement.{statement}
 use Rattle.fsck.proofs.lowest_broken.Tie as tie
 
-array-write-marks : tie.Need-array-write-marks
-array-write-marks c = search needs
+-- ---- places: what rules 1 to 5 find is known; the function's start
 
-directory-broken-requires : tie.Need-directory-broken-requires
-unfolding marksOf marked
-directory-broken-requires c κs = (c .before .before .pre, refl)
+abbrev at-stand : tie.After-used → tie.After-files-stand
+at-stand c = c .before .before
+
+abbrev at-start : tie.After-files-stand → tie.Start
+at-start c = c .before .before .before
+
+files-stand-requires : tie.Need-files-stand-requires
+files-stand-requires c κs = search needs
+
+enum-known-rule : tie.Need-enum-known-rule
+enum-known-rule c = search needs
+
+enum-known-used : tie.Need-enum-known-used
+enum-known-used c = search needs
+
+free-broken-requires : tie.Need-free-broken-requires
+free-broken-requires c κs =
+    let held = c .before .before in
+    let stand = at-stand held in
+    (at-start stand .pre, stands-good _ _ _ _ (stand .files-stand .ensures) (held .used .given .1))
 
 returns : tie.Need-returns
-returns c = c .before .directory-broken .ensures .lowest (c .if1 .taken)
-
-files-broken-requires : tie.Need-files-broken-requires
-files-broken-requires c κs = (c .before .before .before .before .before .pre, c .before .before .directory-broken .ensures .rules (c .before .if1 .left), c .before .before .directory-broken .ensures .marks (c .before .if1 .left))
+returns c = stands-broken _ _ _ _ (c .before .before .before .files-stand .ensures) (c .before .rule .given .1) .is
 
 returns-2 : tie.Need-returns-2
 returns-2 c = search needs
@@ -26,4 +37,10 @@ returns-2 c = search needs
 pub lowest-broken-spec : {M : Type 1} → statement M
 lowest-broken-spec =
     tie.close
-    (tie.spec array-write-marks directory-broken-requires returns files-broken-requires returns-2)
+    (tie.spec
+    files-stand-requires
+    enum-known-rule
+    enum-known-used
+    free-broken-requires
+    returns
+    returns-2)

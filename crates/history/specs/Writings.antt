@@ -1,0 +1,94 @@
+-- The four commands that give a list of their writes, as one: their steps, how they come out, and what is left where they are cut.
+-- Assumes nothing.
+use mathlib.Core.Path.{_≡_, refl, ap}
+use mathlib.Core.Logic.{_≢_}
+use Prim.Native.Nat.{ℕ}
+use native.Mathlib.Omega.{arith}
+use mathlib.Core.List.{List}
+use lib.ListN.{length, take}
+use Rattle.format.specs.ListLaws.{All}
+use Rattle.format.specs.Refusals.{Try, Refusal, refused, ok, _>>=_, number, valueOr}
+use Rattle.format.specs.RefusalLaws.{refusal-number}
+use Rattle.format.specs.Geometry.{Format, Geometry, geometry, Disc, cut, flat, Write, written}
+use Rattle.format.specs.Writes.{writeList, writesIn}
+use Rattle.format.specs.WriteLaws.{WholeOn, list-long}
+use Rattle.format.specs.Calls.{changed, listed, Change, Answer, answered, answerBy, ChangeAnswer, changeAnswerBy, afterSave, afterDelete, afterRename, afterProtect}
+use Rattle.format.specs.ListedLaws.{Outcome, stays, writes, outcome}
+use Rattle.history.specs.History.{leaving, step}
+use Rattle.history.specs.Cuts.{Writing, save, delete, rename, protect, asCommand, writesOn, afterWriting, cutOn, afterCut}
+
+module _ (F : Format) (image : List ℕ) where
+  -- the call is the command's step
+  pub writing-step : (w : Writing) (buffer : List ℕ) → step F image (asCommand w buffer) ≡ leaving (afterWriting F image w buffer)
+  unfolding step afterWriting
+  writing-step (save name m) buffer = refl
+  writing-step (delete name) buffer = refl
+  writing-step (rename old new) buffer = refl
+  writing-step (protect name on) buffer = refl
+
+  -- it is one that lists its writes
+  writing-listed : (w : Writing) (buffer : List ℕ) → afterWriting F image w buffer ≡ changeAnswerBy image buffer (listed F image (length buffer) (writesOn w))
+  unfolding afterWriting writesOn afterSave afterDelete afterRename afterProtect
+  writing-listed (save name m) buffer = refl
+  writing-listed (delete name) buffer = refl
+  writing-listed (rename old new) buffer = refl
+  writing-listed (protect name on) buffer = refl
+
+  -- refused, it leaves the image
+  pub writing-stays : (w : Writing) (buffer : List ℕ) → afterWriting F image w buffer .number ≢ 0 → afterWriting F image w buffer .image ≡ image
+  unfolding changeAnswerBy
+  writing-stays w buffer = rw (writing-listed w buffer) (by (listed F image (length buffer) (writesOn w)))
+    where
+      by : (t : Try Refusal Change) → changeAnswerBy image buffer t .number ≢ 0 → changeAnswerBy image buffer t .image ≡ image
+      by (refused e) h = refl
+      by (ok c) h = absurd (h refl)
+
+  module _ (G : Geometry) (g : geometry F (length image) ≡ ok G) where
+    -- how it comes out
+    pub writing-outcome : (w : Writing) (buffer : List ℕ) → Outcome F G image buffer (writesOn w) (afterWriting F image w buffer)
+    writing-outcome w buffer = rw (writing-listed w buffer) (outcome F image buffer (writesOn w) G g)
+
+    -- accepted, it has made these writes
+    pub record Made (w : Writing) (a : ChangeAnswer) : Type 0 where
+      pub ws : List Write
+      pub passed : writesOn w G (cut F G image) ≡ ok ws
+      pub image-is : a .image ≡ flat F G (written ws (cut F G image))
+      pub size-is : a .size ≡ length (writeList G ws)
+
+    pub made-by : (w : Writing) (buffer : List ℕ) → afterWriting F image w buffer .number ≡ 0 → Made w (afterWriting F image w buffer)
+    unfolding changeAnswerBy
+    made-by w buffer = by (writing-outcome w buffer)
+      where
+        by : {a : ChangeAnswer} → Outcome F G image buffer (writesOn w) a → a .number ≡ 0 → Made w a
+        by (stays e) z = absurd (refusal-number e z)
+        by (writes ws p fits) z = record { ws = ws; passed = p; image-is = refl; size-is = refl }
+
+    -- as many as its list says
+    pub writes-in : {a : ChangeAnswer} (w : Writing) (m : Made w a) → All (WholeOn G) (m .ws) → writesIn (a .size) ≡ length (m .ws)
+    writes-in w m whole = omega (arith, m .size-is, list-long G whole)
+
+    -- a call that writes sectors, where it is accepted
+    pub changed-done : (h : Geometry → Disc → Try Refusal (List Write)) (ws : List Write) → h G (cut F G image) ≡ ok ws
+        → answerBy image (changed F image h) ≡ answered 0 (flat F G (written ws (cut F G image)))
+    unfolding answerBy changed number valueOr _>>=_
+    changed-done h ws e = rw (g, e)
+
+    -- a command that was cut
+    cut-on : (w : Writing) (k : ℕ) (ws : List Write) → writesOn w G (cut F G image) ≡ ok ws → cutOn w k G (cut F G image) ≡ ok (take k ws)
+    unfolding cutOn _>>=_
+    cut-on w k ws p = rw p
+
+    pub cut-done : (w : Writing) (k : ℕ) (ws : List Write) → writesOn w G (cut F G image) ≡ ok ws
+        → afterCut F image w k ≡ answered 0 (flat F G (written (take k ws) (cut F G image)))
+    unfolding afterCut
+    cut-done w k ws p = changed-done (cutOn w k) (take k ws) (cut-on w k ws p)
+
+-- the cut of an accepted command is made, on any image
+pub cut-accepted : (F : Format) (image : List ℕ) (w : Writing) (buffer : List ℕ) → afterWriting F image w buffer .number ≡ 0 → (k : ℕ)
+    → afterCut F image w k .number ≡ 0
+unfolding changeAnswerBy listed _>>=_
+cut-accepted F image w buffer z k = by (geometry F (length image)) refl
+  where
+    by : (t : Try Refusal Geometry) → geometry F (length image) ≡ t → afterCut F image w k .number ≡ 0
+    by (refused e) g = absurd (refusal-number e (rw (writing-listed F image w buffer, g) at z))
+    by (ok G) g = let m = made-by F image G g w buffer z in ap (λ (a : Answer). a .number) (cut-done F image G g w k (m .ws) (m .passed))

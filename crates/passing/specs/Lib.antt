@@ -1,0 +1,4 @@
+pub mod Meaning
+pub mod Passing
+pub mod Stops
+pub mod Places
