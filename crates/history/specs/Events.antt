@@ -48,6 +48,7 @@ module _ (F : Format) where
   happens image repair = afterRepair F image
   happens image (anew f) = f image
 
+  -- the image after a list of events, each on the image as the one before left it
   unfoldable pub imageAfter : List ℕ → List Event → List ℕ
   imageAfter image [] = image
   imageAfter image (e ∷ es) = imageAfter (happens image e .image) es
@@ -134,6 +135,7 @@ module _ (F : Format) where
   HandedEvent repair = Unit {0}
   HandedEvent (anew f) = Renews f
 
+  -- so of each event of a list
   abbrev pub AllHandedEvents : List Event → Type 0
   AllHandedEvents [] = Unit {0}
   AllHandedEvents (e ∷ es) = HandedEvent e × AllHandedEvents es
@@ -169,7 +171,7 @@ eventOf F repair = Event.repair
 eventOf F (replay writes) = anew (λ image. afterReplay F image writes)
 eventOf F (blank name) = anew (λ image. afterBlank F image name)
 
--- so of each call of a list
+-- what is asked of a call: what is asked of its command's arguments
 abbrev pub HandedCall : Call → Type 0
 HandedCall (command c) = Handed c
 HandedCall (pulled w buffer k) = Handed (asCommand w buffer)
@@ -177,6 +179,7 @@ HandedCall repair = Unit {0}
 HandedCall (replay writes) = Unit {0}
 HandedCall (blank name) = Unit {0}
 
+-- so of each call of a list
 abbrev pub AllHandedCalls : List Call → Type 0
 AllHandedCalls [] = Unit {0}
 AllHandedCalls (c ∷ cs) = HandedCall c × AllHandedCalls cs
