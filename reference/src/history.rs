@@ -614,7 +614,8 @@ fn reading_fault(
     (!right).then(|| format!("read of '{name}' with {lent}: {answer:?}"))
 }
 
-fn refused(number: u32) -> Reading {
+/// What a refused read answers.
+pub fn refused(number: u32) -> Reading {
     Reading {
         number,
         page: 0,

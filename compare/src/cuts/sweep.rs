@@ -10,7 +10,7 @@ use crate::writing::Writing;
 use reference::command::Command;
 use reference::cuts::{counts_as_done, cut_image};
 use reference::generate::typed_form;
-use reference::history::{moment_fault, places_fault};
+use reference::history::{moment_fault, places_fault, refused};
 use reference::history::{Book, BookReading, Program, Reference, StandingFile};
 use reference::{Checked, Reading};
 
@@ -229,17 +229,6 @@ fn reads_as(file: &StandingFile, read: impl Fn(&[u8], &mut [u8]) -> Reading) -> 
             read(&name, &mut buffer) == *reading && buffer == *bytes
         }
         BookReading::NotPlain => read(&name, &mut [FILL; SOME_BYTES]) == refused(9),
-    }
-}
-
-fn refused(number: u32) -> Reading {
-    Reading {
-        number,
-        page: 0,
-        start: 0,
-        end: 0,
-        transfer: 0,
-        length: 0,
     }
 }
 

@@ -17,10 +17,8 @@ use Rattle.format.specs.ListLaws.{All, done, _also_, at-all, times-here, times-
 use Rattle.format.specs.Refusals.{ok}
 use Rattle.format.specs.RefusalLaws.{refused-ok}
 use Rattle.format.specs.Geometry.{Format, unknown, stated, Geometry, geometry, sectors, Disc, sector, cut, Write, written}
-use Rattle.format.specs.Arrangements.{Arranged}
-use Rattle.format.specs.Formats.{GoodFormat, good-arranged, stated-cases}
-use Rattle.format.specs.GeometryLaws as laws
-use Rattle.format.specs.GeometryLaws.{no-disc, ImageOf, geometry-ok, Full, sector-full, sector-same, sector-other, pointed-on}
+use Rattle.format.specs.Formats.{GoodFormat, stated-cases}
+use Rattle.format.specs.GeometryLaws.{no-disc, Full, sector-full, sector-same, sector-other, pointed-on}
 use Rattle.format.specs.ChainLaws.{Chain, chain-frame}
 use Rattle.format.specs.Layout.{freePlace, freeCountPlace, usedCountPlace, Slot, system, pairAt, linkOf, lengthOf, freeCount, usedCount, freePointer, free, find, fileChain, directory}
 use Rattle.format.specs.Check.{broken}
@@ -46,7 +44,7 @@ use Rattle.history.specs.Cuts.{Writing, save, delete, rename, protect, a
 use Rattle.history.specs.CutWrites.{Within, Into, into-other, first-into, later-low, save-before, delete-after}
 use Rattle.history.specs.FiledFrame.{frame-met}
 use Rattle.history.specs.Quiet.{within-filed, within-entries, in-place, writing-sound, writing-whole, writing-state, cut-full}
-use Rattle.history.specs.Steps.{image-bounded, opening-state, rule-reported, now-sized, now-cut}
+use Rattle.history.specs.Steps.{arranged-here, bounded-here, full-here, opening-state, rule-reported, now-sized, now-cut}
 use Rattle.history.specs.Writings.{made-by, writes-in, cut-done}
 
 -- writes of other sectors leave the system sector
@@ -268,19 +266,11 @@ reported G u d z (protect name on) ws p (suc j) h few = let q = protect-ok G d n
 
 module _ (F : Format) (o : GoodFormat F) (image : List ℕ) (G : Geometry) (g : geometry F (length image) ≡ ok G) (w : Writing) (buffer : List ℕ)
     (handed : Handed (asCommand w buffer)) (ws : List Write) (p : writesOn w G (cut F G image) ≡ ok ws) (k : ℕ) where
-  i : ImageOf F G (length image)
-  i = geometry-ok F (length image) G g
-
-  arr : Arranged F G
-  arr = good-arranged o i
-
-  full : Full G (cut F G image)
-  full = laws.cut-full F G arr image (i .long)
-
   -- by how many writes were made
   by-count : broken G (written (take k ws) (cut F G image)) ≡ cond (leb 1 k && ltb k (length ws)) 7 0
   by-count =
-      let u = image-bounded o i in
+      let u = bounded-here o image G g in
+      let full = full-here o image G g in
       elim (decLe 1 k) [
         | yes low ↦ elim (decLe (length ws) k) [
           | yes high ↦
@@ -295,7 +285,8 @@ module _ (F : Format) (o : GoodFormat F) (image : List ℕ) (G : Geometry) (g : 
 
   check-reports : afterCheck F (afterCut F image w k .image) ≡ record { number = 0; rule = cond (leb 1 k && ltb k (length ws)) 7 0 }
   check-reports =
-      let z = cut-full full w ws p k in
+      let arr = arranged-here o image G g in
+      let z = cut-full (full-here o image G g) w ws p k in
       let is = now-cut F G arr image g (take k ws) z in
       rw (cut-done F image G g w k ws p) (rule-reported F _ G (now-sized F G arr image g (take k ws) z) _ (rw is by-count))
 
@@ -303,8 +294,7 @@ cut-reports-of : (F : Format) → GoodFormat F → CutReports F
 unfolding CutReports
 cut-reports-of F o image G g w buffer handed z k =
     let m = made-by F image G g w buffer z in
-    let arr = good-arranged o (geometry-ok F (length image) G g) in
-    let whole = writing-whole G (cut F G image) (laws.cut-full F G arr image (geometry-ok F (length image) G g .long)) w (m .ws) (m .passed) in
+    let whole = writing-whole G (cut F G image) (full-here o image G g) w (m .ws) (m .passed) in
     rw (writes-in F image G g w m whole) (check-reports F o image G g w buffer handed (m .ws) (m .passed) k)
 
 none-reports : CutReports unknown

@@ -7,7 +7,7 @@ use native.Mathlib.Omega.{arith}
 use native.Mathlib.Decide.{ℕ-discrete, decLe}
 use mathlib.Core.Bool.{cond}
 use mathlib.Core.Option.{some}
-use mathlib.Core.List.{List, [], _∷_, _++_}
+use mathlib.Core.List.{List, [], _∷_, map, _++_}
 use lib.ListN.{length, set, take, drop, length-append, length-map, take-append-drop, length-set}
 use lib.Seq.{take-append-le, take-all}
 use lib.Dec.{leb}
@@ -48,10 +48,10 @@ all-drop zero h = h
 all-drop (suc k) done = done
 all-drop (suc k) (h also hs) = all-drop k hs
 
-places-take : (k : ℕ) (ws : List Write) → places (take k ws) ≡ take k (places ws)
-places-take zero ws = refl
-places-take (suc k) [] = refl
-places-take (suc k) (w ∷ ws) = ap (λ (r : List ℕ). w .at ∷ r) (places-take k ws)
+pub map-take : {A B : Type 0} (f : A → B) (k : ℕ) (xs : List A) → take k (map f xs) ≡ map f (take k xs)
+map-take f zero xs = refl
+map-take f (suc k) [] = refl
+map-take f (suc k) (x ∷ xs) = ap (λ (r : List _). f x ∷ r) (map-take f k xs)
 
 of-places : {P : ℕ → Type 0} (ws : List Write) → All P (places ws) → All (λ w. P (w .at)) ws
 of-places [] h = done
@@ -133,7 +133,7 @@ module _ (G : Geometry) (u : Bounded G) (d : Disc) (z : Full G d) (e : broken G 
     first-into j h =
         let front : List ℕ = 0 ∷ allTaken G d m in
         let fits : j ≤ length front = omega (arith, length-map ws (λ w. w .at), ap length places-are, length-append front (home ∷ [])) in
-        let is : places (take j ws) ≡ take j front = places-take j ws ∙ ap (take j) places-are ∙ take-append-le j front (home ∷ []) fits in
+        let is : places (take j ws) ≡ take j front = sym (map-take (λ w. w .at) j ws) ∙ ap (take j) places-are ∙ take-append-le j front (home ∷ []) fits in
         of-places (take j ws) (rw is (all-take j (at-all front (λ n q. q))))
 
     rest-low : All (λ n. 0 < n) (allTaken G d m ++ home ∷ [])

@@ -12,9 +12,8 @@ use Rattle.format.specs.Refusals.{ok, _>>=_, _orRefuse_, number}
 use Rattle.format.specs.RefusalLaws.{refused-ok}
 use Rattle.format.specs.Geometry.{Format, unknown, stated, Geometry, geometry, Disc, cut, flat, Write, written}
 use Rattle.format.specs.Arrangements.{Arranged}
-use Rattle.format.specs.Formats.{GoodFormat, good-arranged, stated-cases}
-use Rattle.format.specs.GeometryLaws as laws
-use Rattle.format.specs.GeometryLaws.{geometry-ok, Full, no-disc}
+use Rattle.format.specs.Formats.{GoodFormat, stated-cases}
+use Rattle.format.specs.GeometryLaws.{geometry-ok, no-disc}
 use Rattle.format.specs.Names.{stored}
 use Rattle.format.specs.Layout.{entries}
 use Rattle.format.specs.CheckLaws.{RulesTo5, hold-rules}
@@ -35,7 +34,7 @@ use Rattle.history.specs.Cuts.{Writing, save, delete, rename, protect, a
 use Rattle.history.specs.BookFiles.{fileOf, filesOf}
 use Rattle.history.specs.State.{State}
 use Rattle.history.specs.Moments.{gives, read-on}
-use Rattle.history.specs.Steps.{image-bounded, opening-state, sound-checked, now-long, now-sized, now-cut}
+use Rattle.history.specs.Steps.{arranged-here, bounded-here, full-here, opening-state, sound-checked, now-long, now-sized, now-cut}
 use Rattle.history.specs.BlankLaid.{Passes}
 use Rattle.history.specs.BlankStarts.{passes}
 use Rattle.history.specs.RepairLeaves.{repaired}
@@ -125,13 +124,10 @@ book-stays {G} {d} {d′} f f′ e =
 
 module _ (F : Format) (o : GoodFormat F) (image : List ℕ) (G : Geometry) (g : geometry F (length image) ≡ ok G) where
   arr : Arranged F G
-  arr = good-arranged o (geometry-ok F (length image) G g)
+  arr = arranged-here o image G g
 
   ps : Passes G
   ps = passes o (geometry-ok F (length image) G g)
-
-  full : Full G (cut F G image)
-  full = laws.cut-full F G arr image (geometry-ok F (length image) G g .long)
 
   repair-leaves : RulesTo5 G (cut F G image) → afterRepair F image ≡ answered 0 (flat F G (written (repairWrites G (cut F G image)) (cut F G image)))
   unfolding afterRepair
@@ -142,7 +138,7 @@ module _ (F : Format) (o : GoodFormat F) (image : List ℕ) (G : Geometry) (g : 
       let d : Disc = cut F G image in
       let ws : List Write = repairWrites G d in
       let f = rules-filed G d r in
-      let m = repaired ps f full in
+      let m = repaired ps f (full-here o image G g) in
       let is = now-cut F G arr image g ws (m .full) in
       rw (repair-leaves r) (record {
         number = refl;
@@ -171,7 +167,7 @@ module _ (F : Format) (o : GoodFormat F) (G : Geometry) (image ref : List ℕ) (
 
   mended-state : State G start (cut F G (afterRepair F image .image)) b
   mended-state =
-      let q = quiet-repaired (ps F o image G g) (within-quiet st v (full F o image G g)) in
+      let q = quiet-repaired (ps F o image G g) (within-quiet st v (full-here o image G g)) in
       let is = now-cut F G (arr F o image G g) image g (repairWrites G (cut F G image)) (q .full) in
       rw (repair-leaves F o image G g rules) (rw is q)
 
@@ -203,14 +199,14 @@ module _ (F : Format) (o : GoodFormat F) (image : List ℕ) (G : Geometry) (g : 
   now vs = flat F G (written vs (cut F G image))
 
   before : State G (cut F G image) (cut F G image) (openingBook G (cut F G image))
-  before = opening-state G (cut F G image) (full F o image G g) (writing-sound G (cut F G image) w ws p)
+  before = opening-state G (cut F G image) (full-here o image G g) (writing-sound G (cut F G image) w ws p)
 
   -- b: the book of `ref`, with the files of the book before that the command doesn't name
   claimed : (ref : List ℕ) (b : Book) → length ref ≡ length image → State G (cut F G image) (cut F G ref) b
       → ((nine : List ℕ) → names w nine ≡ false → filter (named nine) (b .files) ≡ filter (named nine) (openingBook G (cut F G image) .files))
       → Within G (cut F G ref) (written (take k ws) (cut F G image)) → Claimed ref (now (take k ws))
   claimed ref b long st unnamed v =
-      let z = cut-full (full F o image G g) w ws p k in
+      let z = cut-full (full-here o image G g) w ws p k in
       let sized = now-sized F G (arr F o image G g) image g (take k ws) z in
       let as-long = now-long F G (arr F o image G g) image g (take k ws) z ∙ sym long in
       let u : Within G (cut F G ref) (cut F G (now (take k ws))) = rw (now-cut F G (arr F o image G g) image g (take k ws) z) v in (
@@ -224,7 +220,7 @@ module _ (F : Format) (o : GoodFormat F) (image : List ℕ) (G : Geometry) (g : 
   both : (done : Bool) → Within G (cond done (written ws (cut F G image)) (cut F G image)) (written (take k ws) (cut F G image))
       → Claimed (cond done (now ws) image) (now (take k ws))
   both true v =
-      let st = writing-state (image-bounded o (geometry-ok F (length image) G g)) before w buffer ws handed p in
+      let st = writing-state (bounded-here o image G g) before w buffer ws handed p in
       let is = now-cut F G (arr F o image G g) image g ws (st .full) in
       let b : Book = history.accepted (openingBook G (cut F G image)) (asCommand w buffer) in
       claimed (now ws) b (now-long F G (arr F o image G g) image g ws (st .full)) (rw is st)
@@ -233,8 +229,8 @@ module _ (F : Format) (o : GoodFormat F) (image : List ℕ) (G : Geometry) (g : 
 
   cut-mended : Claimed (cond (isDone w (length ws) k) (now ws) image) (afterCut F image w k .image)
   cut-mended =
-      let u = image-bounded o (geometry-ok F (length image) G g) in
-      rw (cut-done F image G g w k ws p) (both (isDone w (length ws) k) (cut-within G u (cut F G image) (full F o image G g) w ws p k))
+      let u = bounded-here o image G g in
+      rw (cut-done F image G g w k ws p) (both (isDone w (length ws) k) (cut-within G u (cut F G image) (full-here o image G g) w ws p k))
 
 -- ---- the claims, for every kind of disc
 
@@ -246,7 +242,7 @@ cut-repairs-of : (F : Format) → GoodFormat F → CutRepairs F
 unfolding CutRepairs
 cut-repairs-of F o image G g w buffer handed z k =
     let m = made-by F image G g w buffer z in
-    let whole = writing-whole G (cut F G image) (full F o image G g) w (m .ws) (m .passed) in
+    let whole = writing-whole G (cut F G image) (full-here o image G g) w (m .ws) (m .passed) in
     rw (writes-in F image G g w m whole, m .image-is) (cut-mended F o image G g w buffer handed (m .ws) (m .passed) k)
 
 none-repairs : Repairs unknown
@@ -270,8 +266,8 @@ pub cut-replayed : (F : Format) → GoodFormat F → (image : List ℕ) (G : Geo
     → writesOn w G (cut F G image) ≡ ok ws → (k : ℕ) → afterReplay F image (writeList G (take k ws)) ≡ afterCut F image w k
 unfolding afterReplay replayOn _orRefuse_
 cut-replayed F o image G g w ws p k =
-    let whole = all-take k (writing-whole G (cut F G image) (full F o image G g) w ws p) in
-    let u = image-bounded o (geometry-ok F (length image) G g) in
+    let whole = all-take k (writing-whole G (cut F G image) (full-here o image G g) w ws p) in
+    let u = bounded-here o image G g in
     let made : List ℕ = writeList G (take k ws) in
     changed-done F image G g (λ G d. replayOn G d made) (take k ws) (rw (held-list G (u .some-sector) whole))
     ∙ sym (cut-done F image G g w k ws p)

@@ -12,9 +12,7 @@ use borrow.Author.Tests.{eqb-true}
 use Rattle.format.specs.Refusals.{numberOf, ok, _>>=_, _>>_, refuse_if_, number, valueOr}
 use Rattle.format.specs.RefusalLaws.{refused-ok, refusal-number}
 use Rattle.format.specs.Geometry.{Format, unknown, stated, Geometry, geometry, Disc, cut, flat, Write, written}
-use Rattle.format.specs.Arrangements.{Arranged}
-use Rattle.format.specs.Formats.{GoodFormat, good-arranged, stated-cases}
-use Rattle.format.specs.GeometryLaws as laws
+use Rattle.format.specs.Formats.{GoodFormat, stated-cases}
 use Rattle.format.specs.GeometryLaws.{no-disc, geometry-ok, Full}
 use Rattle.format.specs.Check.{sound, filesHold}
 use Rattle.format.specs.CheckLaws.{hold-rules, rules-hold}
@@ -33,7 +31,7 @@ use Rattle.history.specs.Cuts.{Writing, asCommand, writesOn, afterWritin
 use Rattle.history.specs.Events.{Event, made, madeCut, repair, anew, CallOn, whereAccepted, happens, imageAfter, Ledger, speaks, silent, waits, afterCommand, pulledBook, afterPulled, afterRepaired, afterNew, followed, settled, ledgerAfter, Makes, Renews, HandedEvent, AllHandedEvents, Said, Demand3Pulled}
 use Rattle.history.specs.State.{State}
 use Rattle.history.specs.Moments.{moment}
-use Rattle.history.specs.Steps.{image-bounded, refused-book, unchanged-book, opening-state, now-long, now-cut}
+use Rattle.history.specs.Steps.{arranged-here, bounded-here, full-here, refused-book, unchanged-book, opening-state, now-long, now-cut}
 use Rattle.history.specs.BlankLaid.{Passes}
 use Rattle.history.specs.BlankStarts.{passes}
 use Rattle.history.specs.Quiet.{Quiet, state-quiet, quiet-sound, quiet-repaired, writing-sound, writing-whole, whole-full, cut-full, writing-state, cut-quiet}
@@ -86,22 +84,14 @@ module _ (F : Format) (o : GoodFormat F) (G : Geometry) where
   kept-full waits d k = k
 
   module _ (image : List ℕ) (g : geometry F (length image) ≡ ok G) where
-    arr : Arranged F G
-    arr = good-arranged o (geometry-ok F (length image) G g)
-
-    bounded : Bounded G
-    bounded = image-bounded o (geometry-ok F (length image) G g)
-
     ordered : Passes G
     ordered = passes o (geometry-ok F (length image) G g)
-
-    full : Full G (cut F G image)
-    full = laws.cut-full F G arr image (geometry-ok F (length image) G g .long)
 
     -- the image after writes
     now : (l : Ledger) (ws : List Write) → AsLong l (length image) → Kept l (written ws (cut F G image)) → Holds (flat F G (written ws (cut F G image))) l
     now l ws long k =
         let z = kept-full l (written ws (cut F G image)) k in
+        let arr = arranged-here o image G g in
         let same = now-long F G arr image g ws z in
         record { sized = ap (geometry F) same ∙ g; long = rw same long; kept = rw (now-cut F G arr image g ws z) k }
 
@@ -140,7 +130,7 @@ module _ (F : Format) (o : GoodFormat F) (G : Geometry) where
     writing-holds image l h (stays e) = rw (command-refused l (asCommand w buffer) (numberOf e) (refusal-number e)) h
     writing-holds image l h (writes ws p fits) =
         now image (h .sized) (afterCommand l (asCommand w buffer) 0) ws (as-long l 0 (length image) (h .long))
-        (kept-written (bounded image (h .sized)) l (cut F G image) (h .kept) ws p)
+        (kept-written (bounded-here o image G (h .sized)) l (cut F G image) (h .kept) ws p)
 
     step-holds : (image : List ℕ) (l : Ledger) → Holds image l
         → Holds (step F image (asCommand w buffer) .image) (afterCommand l (asCommand w buffer) (step F image (asCommand w buffer) .number))
@@ -192,10 +182,10 @@ module _ (F : Format) (o : GoodFormat F) (G : Geometry) where
         → Holds (afterCut F image w k .image) (afterPulled l w buffer (writesIn (afterWriting F image w buffer .size)) k (afterCut F image w k .number))
     cut-holds image l h z =
         let m = made-by F image G (h .sized) w buffer z in
-        let whole = writing-whole G (cut F G image) (full image (h .sized)) w (m .ws) (m .passed) in
+        let whole = writing-whole G (cut F G image) (full-here o image G (h .sized)) w (m .ws) (m .passed) in
         rw (cut-done F image G (h .sized) w k (m .ws) (m .passed), writes-in F image G (h .sized) w m whole)
         (now image (h .sized) (afterPulled l w buffer (length (m .ws)) k 0) (take k (m .ws)) (pulled-long l (length (m .ws)) (length image) (h .long))
-        (kept-pulled (bounded image (h .sized)) l (cut F G image) (h .kept) (m .ws) (m .passed)))
+        (kept-pulled (bounded-here o image G (h .sized)) l (cut F G image) (h .kept) (m .ws) (m .passed)))
 
     made-cut-holds : (image : List ℕ) (l : Ledger) (f : CallOn) → Makes F (asCommand w buffer) f → Holds image l
         → let a = whereAccepted (f image .number) image (afterCut F image w k) in
@@ -257,7 +247,7 @@ module _ (F : Format) (o : GoodFormat F) (G : Geometry) where
       by : (n : ℕ) → f image .number ≡ n → Holds (f image .image) (afterNew l n)
       by zero e =
           let sized : geometry F (length (f image .image)) ≡ ok G = ap (geometry F) (r .long image) ∙ h .sized in
-          record { sized = sized; long = tt; kept = full (f image .image) sized }
+          record { sized = sized; long = tt; kept = full-here o (f image .image) G sized }
       by (suc n) e = rw (r .stays image (λ z. omega (arith, e))) h
 
   -- ---- any event, and a list of them
@@ -289,7 +279,7 @@ module _ (F : Format) (o : GoodFormat F) (G : Geometry) where
 pub demand-3-pulled-of : (F : Format) → GoodFormat F → Demand3Pulled F
 unfolding Demand3Pulled
 demand-3-pulled-of F o s G g es handed k few =
-    let start = settle F o G s waits (record { sized = g; long = tt; kept = full F o G s g }) in
+    let start = settle F o G s waits (record { sized = g; long = tt; kept = full-here o s G g }) in
     said F o G _ _ (events-hold F o G es k s (settled F G s waits) handed few start)
 
 -- a kind of disc that there isn't has no runs

@@ -13,8 +13,8 @@ use borrow.Author.Tests.{eq-eqb}
 use Rattle.format.specs.Refusals.{Try, Refusal, refused, ok, number, valueOr}
 use Rattle.format.specs.RefusalLaws.{refused-ok, ok-is, then-ok}
 use Rattle.format.specs.Geometry.{Format, unknown, stated, Geometry, geometry, cut}
-use Rattle.format.specs.Formats.{GoodFormat, good-arranged, stated-cases}
-use Rattle.format.specs.GeometryLaws.{no-disc, geometry-ok, cut-full}
+use Rattle.format.specs.Formats.{GoodFormat, stated-cases}
+use Rattle.format.specs.GeometryLaws.{no-disc}
 use Rattle.format.specs.Check.{broken}
 use Rattle.format.specs.WriteLaws.{replay-whole}
 use Rattle.format.specs.WholeWrites.{written-full}
@@ -27,8 +27,9 @@ use Rattle.history.specs.Cuts as cuts
 use Rattle.history.specs.Cuts.{Writing, asCommand, afterWriting, afterCut}
 use Rattle.history.specs.Events as events
 use Rattle.history.specs.Events.{Event, happens, imageAfter, Ledger, speaks, silent, waits, pulledBook, afterPulled, afterCommand, afterRepaired, afterNew, followed, settled, ledgerAfter, Stays, Makes, Renews, HandedEvent, AllHandedEvents, Said, Demand3Pulled, Call, command, pulled, repair, replay, blank, eventOf, HandedCall, AllHandedCalls, Demand3Calls}
-use Rattle.history.specs.Steps.{checked-sound, now-long}
+use Rattle.history.specs.Steps.{arranged-here, full-here, checked-sound, now-long}
 use Rattle.history.specs.BlankStarts.{blank-long}
+use Rattle.history.specs.CutWrites.{map-take}
 use Rattle.history.specs.Writings.{writing-step, writing-stays, cut-accepted}
 use Rattle.history.specs.Demand.{demand-3-pulled-of, demand-3-pulled}
 
@@ -70,10 +71,8 @@ module _ (F : Format) (o : GoodFormat F) where
       let a = then-ok (geometry F (length image)) _ e in
       let G : Geometry = a .0 in
       let b = then-ok (replayOn G (cut F G image) writes) _ (a .2) in
-      let i = geometry-ok F (length image) G (a .1) in
-      let arr = good-arranged o i in
-      let z = written-full (b .0) (replay-whole G (cut F G image) writes (b .0) (b .1)) (cut-full F G arr image (i .long)) in
-      sym (ap length (ok-is (b .2))) ∙ now-long F G arr image (a .1) (b .0) z
+      let z = written-full (b .0) (replay-whole G (cut F G image) writes (b .0) (b .1)) (full-here o image G (a .1)) in
+      sym (ap length (ok-is (b .2))) ∙ now-long F G (arranged-here o image G (a .1)) image (a .1) (b .0) z
 
   replay-renews : (writes : List ℕ) → Renews (λ image. afterReplay F image writes)
   unfolding afterReplay
@@ -102,11 +101,6 @@ module _ (F : Format) (o : GoodFormat F) where
   handed-calls : (cs : List Call) → AllHandedCalls cs → AllHandedEvents F (map (eventOf F) cs)
   handed-calls [] h = tt
   handed-calls (c ∷ cs) h = (handed-call c (h .0), handed-calls cs (h .1))
-
-map-take : {A B : Type 0} (f : A → B) (k : ℕ) (xs : List A) → take k (map f xs) ≡ map f (take k xs)
-map-take f zero xs = refl
-map-take f (suc k) [] = refl
-map-take f (suc k) (x ∷ xs) = ap (λ (r : List _). f x ∷ r) (map-take f k xs)
 
 pub calls-of : (F : Format) → GoodFormat F → Demand3Calls F
 unfolding Demand3Calls Demand3Pulled
@@ -244,20 +238,18 @@ module _ (F : Format) (claim : Demand3Calls F) (G : Geometry) (s : List ℕ) (g 
         (says (pulled w buffer k ∷ cs) (h, handed) s′ b′ (speaks-cut F G s opened s w buffer z k (map (eventOf F) cs) ∙ e))
 
     -- "the cut command counting as done or not done accordingly"
-    pub must-cut : Moment F G s (afterRepair F (afterCut F s w k .image) .image) (pulledBook opened w buffer (writesIn (afterWriting F s w buffer .size)) k)
+    pub must-cut : Moment F G s (afterRepair F x .image) b
     unfolding imageAfter happens ledgerAfter followed afterRepaired settled eventOf
     must-cut = after-cut (repair ∷ []) (tt, tt) s b refl
 
     -- "commands between cut and repair by their answers as ever"
-    pub must-between : (c : Command) → Handed c → let y = step F (afterCut F s w k .image) c in
-        Moment F G s (afterRepair F (y .image) .image) (entered (pulledBook opened w buffer (writesIn (afterWriting F s w buffer .size)) k) c (y .number))
+    pub must-between : (c : Command) → Handed c → let a = step F x c in Moment F G s (afterRepair F (a .image) .image) (entered b c (a .number))
     unfolding imageAfter happens ledgerAfter followed afterRepaired settled eventOf afterCommand
     must-between c hc = after-cut (command c ∷ repair ∷ []) (hc, (tt, tt)) s _ refl
 
     -- a second cut before the repair
-    pub must-twice : (v : Writing) (buffer′ : List ℕ) → Handed (asCommand v buffer′) → (j : ℕ) → let y = afterCut F s w k .image in
-        afterWriting F y v buffer′ .number ≡ 0 → Moment F G s (afterRepair F (afterCut F y v j .image) .image)
-        (pulledBook (pulledBook opened w buffer (writesIn (afterWriting F s w buffer .size)) k) v buffer′ (writesIn (afterWriting F y v buffer′ .size)) j)
+    pub must-twice : (v : Writing) (buffer′ : List ℕ) → Handed (asCommand v buffer′) → (j : ℕ) → afterWriting F x v buffer′ .number ≡ 0
+        → Moment F G s (afterRepair F (afterCut F x v j .image) .image) (pulledBook b v buffer′ (writesIn (afterWriting F x v buffer′ .size)) j)
     unfolding imageAfter happens ledgerAfter followed afterRepaired settled eventOf
     must-twice v buffer′ hv j q =
         let b′ : Book = pulledBook b v buffer′ (writesIn (afterWriting F x v buffer′ .size)) j in
@@ -265,7 +257,7 @@ module _ (F : Format) (claim : Demand3Calls F) (G : Geometry) (s : List ℕ) (g 
         (after-cut (pulled v buffer′ j ∷ repair ∷ []) (hv, (tt, tt)) s b′ (silent-cut F G s b x v buffer′ q j (events.repair ∷ [])))
 
     -- "unless .. a blank disc .. came between": it is a start itself
-    pub must-blank : (name : List ℕ) → let a = afterBlank F (afterCut F s w k .image) name in
+    pub must-blank : (name : List ℕ) → let a = afterBlank F x name in
         a .number ≡ 0 → broken G (cut F G (a .image)) ≡ 0 → Moment F G (a .image) (a .image) (openingBook G (cut F G (a .image)))
     unfolding imageAfter happens ledgerAfter followed afterNew eventOf
     must-blank name q e = after-cut (blank name ∷ []) (tt, tt) _ _ (rw q (start-speaks F G _ e))

@@ -10,8 +10,8 @@ use lib.ListN.{length, length-map}
 use Rattle.format.specs.Refusals.{ok, _>>=_, number, valueOr}
 use Rattle.format.specs.Geometry.{Format, Geometry, geometry, Disc, cut, flat, Write, written}
 use Rattle.format.specs.Arrangements.{Arranged}
-use Rattle.format.specs.Formats.{GoodFormat, four}
-use Rattle.format.specs.GeometryLaws.{ImageOf, geometry-ok, Full, cut-flat, flat-long}
+use Rattle.format.specs.Formats.{GoodFormat, four, good-arranged}
+use Rattle.format.specs.GeometryLaws.{ImageOf, geometry-ok, Full, cut-full, cut-flat, flat-long}
 use Rattle.format.specs.Layout.{slotsEach, slotsOf, directory, free, slots, entries}
 use Rattle.format.specs.Check.{broken}
 use Rattle.format.specs.Calls.{asked, CheckAnswer, checkAnswerBy, afterCheck}
@@ -31,6 +31,17 @@ image-bounded {F} {G} f i =
       some-sector = omega (arith, four f, i .per-track);
       few = omega (arith, mul-le-mul-left (G .perTrack) (i .few-tracks), f .few, i .per-track);
     }
+
+-- what holds of an image of the geometry G
+module _ {F : Format} (o : GoodFormat F) (image : List ℕ) (G : Geometry) (g : geometry F (length image) ≡ ok G) where
+  pub arranged-here : Arranged F G
+  arranged-here = good-arranged o (geometry-ok F (length image) G g)
+
+  pub bounded-here : Bounded G
+  bounded-here = image-bounded o (geometry-ok F (length image) G g)
+
+  pub full-here : Full G (cut F G image)
+  full-here = cut-full F G arranged-here image (geometry-ok F (length image) G g .long)
 
 -- ---- what a command leaves of the book
 

@@ -1,6 +1,7 @@
 //! Images written by hand from the layouts, byte by byte. They are plain and
 //! have ten sectors a track.
 
+use reference::command::{Buffer, Command};
 use reference::history::Book;
 use reference::{
     blank, check, list, read, repair, replay, view, view_number, view_start, Checked, Filled,
@@ -272,4 +273,28 @@ fn refused_by_writing_calls(image: &[u8], sectors: u32, arrangement: u32) {
     }
     assert_eq!(repair(&mut lent, sectors, arrangement), 1);
     assert_eq!(lent, image);
+}
+
+/// Longer than any list of the commands below.
+pub const LONG: Buffer = Buffer {
+    length: 10_000,
+    fill: 0xC3,
+};
+
+pub fn save_command(name: &str, length: usize) -> Command {
+    Command::Save {
+        name: name.as_bytes().to_vec(),
+        page: 2,
+        start: 0x1000,
+        transfer: 0x1001,
+        sheet: vec![0x42; length],
+        writes: LONG,
+    }
+}
+
+pub fn delete_command(name: &str) -> Command {
+    Command::Delete {
+        name: name.as_bytes().to_vec(),
+        writes: LONG,
+    }
 }

@@ -1,39 +1,15 @@
 //! Cards that are pulled (request g): cuts of lists worked out by hand, every cut
 //! of generated lists, and demand 3 over runs with cuts and repairs.
 
-use crate::common::{link, moved, position, put, small, start_of};
-use crate::common::{DIRECTORY, FORMATS, MOVED, NINE, ONE_SLOT, PLAIN, TEN, TWO_SLOT};
-use reference::command::{Answer, Buffer, Command};
+use crate::common::{delete_command, link, moved, position, put, save_command, small, start_of};
+use crate::common::{DIRECTORY, FORMATS, LONG, MOVED, NINE, ONE_SLOT, PLAIN, TEN, TWO_SLOT};
+use reference::command::{Answer, Command};
 use reference::cuts::{counts_as_done, cut_image, write_count, Step};
 use reference::generate::{command_list, repair_disc, sound_disc, step_list};
 use reference::generate::{Cuts, Random, Replays};
 use reference::history::{answer_fault, moment_fault, Book, History, Reference};
 use reference::repair_book::{cuts_fault, repair_fault};
 use reference::{blank, check, repair, Checked};
-
-/// Longer than any list of the tests by hand.
-const LONG: Buffer = Buffer {
-    length: 10_000,
-    fill: 0xC3,
-};
-
-fn save_command(name: &str, length: usize) -> Command {
-    Command::Save {
-        name: name.as_bytes().to_vec(),
-        page: 0,
-        start: 0x2000,
-        transfer: 0,
-        sheet: vec![0x42; length],
-        writes: LONG,
-    }
-}
-
-fn delete_command(name: &str) -> Command {
-    Command::Delete {
-        name: name.as_bytes().to_vec(),
-        writes: LONG,
-    }
-}
 
 fn rename_command(old: &str, new: &str) -> Command {
     Command::Rename {
@@ -82,7 +58,7 @@ fn rethread(image: &mut [u8], chain: &[u8], used: u8) {
 
 /// What a save of 246 times $42 leaves in 0/5 and 0/7 of `small`, links apart.
 fn put_first_sector(image: &mut [u8]) {
-    let front = b"\xFF\x00\x00\x20\xF5\x20\x00\x00\xF5";
+    let front = b"\xFF\x02\x00\x10\xF5\x10\x01\x10\xF5";
     put(image, position(0, 5) + 2, front);
     image[position(0, 5) + 11..position(0, 6)].fill(0x42);
 }

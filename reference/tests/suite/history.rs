@@ -1,33 +1,10 @@
 //! The book on its own, and that it catches a run that goes wrong.
 
-use crate::common::{moved, small, MOVED, ONE_SLOT, PLAIN, TEN, TWO_SLOT};
+use crate::common::{delete_command, moved, save_command, small, LONG};
+use crate::common::{MOVED, ONE_SLOT, PLAIN, TEN, TWO_SLOT};
 use reference::blank;
-use reference::command::{Buffer, Command};
+use reference::command::Command;
 use reference::history::{moment_fault, Book, BookReading, History, Reference};
-
-/// Longer than any list of these tests.
-const LONG: Buffer = Buffer {
-    length: 10_000,
-    fill: 1,
-};
-
-fn save_command(name: &str, length: usize) -> Command {
-    Command::Save {
-        name: name.as_bytes().to_vec(),
-        page: 2,
-        start: 0x1000,
-        transfer: 0x1001,
-        sheet: vec![0x42; length],
-        writes: LONG,
-    }
-}
-
-fn delete_command(name: &str) -> Command {
-    Command::Delete {
-        name: name.as_bytes().to_vec(),
-        writes: LONG,
-    }
-}
 
 /// Runs a command that must be accepted, in the image and in the book.
 fn accept(image: &mut [u8], book: &mut Book, command: &Command) {
