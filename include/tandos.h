@@ -109,6 +109,24 @@
  * that can't hold the list is refused with TANDOS_SHORT, the last refusal of
  * each; then the command is not done.
  *
+ * CORRECTIONS. If a save is done, needs no new directory sector, and the next
+ * call deletes the same file, done too, every byte of the image is as before
+ * the save except
+ *
+ *  - bytes 2 to 255 of the sectors that the file took
+ *  - the track byte of the link that ended the free chain, where the save took
+ *    the sector with that link
+ *
+ * So the file is gone and tandos_list gives what it gave before, but the bytes
+ * of the sheet stay in those sectors, now free, until they are written again.
+ * Of a file of n sectors (see FILES) the save's list has the length
+ * TANDOS_WRITES_SIZE(n + 2), or TANDOS_WRITES_SIZE(n + 3) if the save needed a
+ * new directory sector; that sector stays when the file is deleted.
+ *
+ * Renaming A to B and directly then B to C, both done, gives the image that
+ * renaming A to C, lent the same as A to B, gives if C isn't A; if C is A, it
+ * gives the image from before both, byte for byte.
+ *
  * A PULLED CARD. A card that is pulled may have only the first writes of a
  * list, none, some or all, each of them whole. Its image is then read back,
  * repaired and written again, and from then on it is the disc:
@@ -427,9 +445,10 @@ tandos_filled tandos_save(uint8_t *image, size_t image_len,
 /*
  * Deletes a file: clears its slot and puts its sectors, in order, in front of
  * the free chain. Both counts follow. The sectors keep their bytes, but for the
- * last one's link; a directory sector that is emptied stays. Gives the list of
- * writes at the front of `writes`, and its length, TANDOS_DELETE_WRITES_SIZE.
- * The rest of `writes` stays. Refusals:
+ * last one's link; a directory sector that is emptied stays. What a save and
+ * its delete leave together stands under CORRECTIONS. Gives the list of writes
+ * at the front of `writes`, and its length, TANDOS_DELETE_WRITES_SIZE. The rest
+ * of `writes` stays. Refusals:
  *   TANDOS_SIZE      wrong image_len, sectors or arrangement.
  *   TANDOS_NAME      the name is no file name as typed.
  *   TANDOS_UNSOUND   the check finds a broken rule.
@@ -443,9 +462,10 @@ tandos_filled tandos_delete(uint8_t *image, size_t image_len,
                             uint8_t *writes, size_t writes_len);
 
 /*
- * Renames a file: changes the nine name bytes of its entry. Gives the list of
- * writes at the front of `writes`, and its length, TANDOS_ENTRY_WRITES_SIZE.
- * The rest of `writes` stays. Refusals:
+ * Renames a file: changes the nine name bytes of its entry. What two renames
+ * leave together stands under CORRECTIONS. Gives the list of writes at the
+ * front of `writes`, and its length, TANDOS_ENTRY_WRITES_SIZE. The rest of
+ * `writes` stays. Refusals:
  *   TANDOS_SIZE      wrong image_len, sectors or arrangement.
  *   TANDOS_NAME      either name is no file name as typed.
  *   TANDOS_UNSOUND   the check finds a broken rule.

@@ -3,6 +3,7 @@
 
 use crate::calls::Call;
 use crate::cut_case::Stage;
+use crate::marks::{Marks, Occasion, Tallied};
 use std::collections::BTreeMap;
 use std::fmt::{Formatter, Result};
 
@@ -32,8 +33,8 @@ pub enum Mark {
     GoneOn,
 }
 
-impl Mark {
-    pub const ALL: [Mark; 15] = [
+impl Occasion for Mark {
+    const ALL: &'static [Mark] = &[
         Mark::OneTrack,
         Mark::Largest,
         Mark::Garbage,
@@ -77,7 +78,7 @@ pub struct CutTally {
     stages: BTreeMap<(Call, Stage), u64>,
     /// What the check says of the cut discs.
     rules: BTreeMap<u32, u64>,
-    marks: BTreeMap<Mark, u64>,
+    marks: Marks<Mark>,
 }
 
 impl CutTally {
@@ -87,13 +88,12 @@ impl CutTally {
     }
 
     pub fn mark(&mut self, occurred: bool, mark: Mark) {
-        if occurred {
-            *self.marks.entry(mark).or_default() += 1;
-        }
+        self.marks.mark(occurred, mark);
     }
+}
 
-    /// Names of what must occur where a kind of disc is stated and did not.
-    pub fn missing(&self) -> Vec<String> {
+impl Tallied for CutTally {
+    fn missing(&self) -> Vec<String> {
         let stages = stages()
             .filter(|key| !self.stages.contains_key(key))
             .map(|(call, stage)| format!("{} cut {}", call.name(), stage.name()));
@@ -101,14 +101,10 @@ impl CutTally {
             .into_iter()
             .filter(|rule| !self.rules.contains_key(rule))
             .map(|rule| format!("a cut disc of which the check says {rule}"));
-        let marks = Mark::ALL
-            .into_iter()
-            .filter(|mark| !self.marks.contains_key(mark))
-            .map(|mark| mark.name().to_string());
-        stages.chain(rules).chain(marks).collect()
+        stages.chain(rules).chain(self.marks.missing()).collect()
     }
 
-    pub fn write(&self, out: &mut Formatter<'_>) -> Result {
+    fn write(&self, out: &mut Formatter<'_>) -> Result {
         for call in LISTING {
             let counts = Stage::all_of(call).iter().map(|&stage| {
                 let count = self.stages.get(&(call, stage)).unwrap_or(&0);
@@ -122,11 +118,7 @@ impl CutTally {
             .map(|(rule, count)| format!("{rule}: {count}"))
             .collect();
         writeln!(out, "the check of the cut discs says {}", rules.join(", "))?;
-        for mark in Mark::ALL {
-            let count = self.marks.get(&mark).unwrap_or(&0);
-            writeln!(out, "{}: {count}", mark.name())?;
-        }
-        Ok(())
+        self.marks.write(out)
     }
 }
 
@@ -143,7 +135,7 @@ mod tests {
         CutTally {
             stages: stages().map(|key| (key, 1)).collect(),
             rules: RULES_OF_CUTS.into_iter().map(|rule| (rule, 1)).collect(),
-            marks: Mark::ALL.into_iter().map(|mark| (mark, 1)).collect(),
+            marks: Marks::full(),
         }
     }
 
@@ -159,7 +151,7 @@ mod tests {
         let mut tally = full();
         tally.stages.remove(&(Call::Delete, Stage::LastSector));
         tally.rules.remove(&7);
-        tally.marks.remove(&Mark::FullAfter);
+        tally.marks.remove(Mark::FullAfter);
         let expected = [
             "delete cut after the last sector",
             "a cut disc of which the check says 7",
@@ -177,6 +169,6 @@ mod tests {
         tally.mark(false, Mark::Largest);
         assert_eq!(tally.stages[&(Call::Save, Stage::System)], 2);
         assert_eq!(tally.rules, BTreeMap::from([(0, 1), (7, 2)]));
-        assert!(tally.marks.is_empty());
+        assert!(tally.marks.met().is_empty());
     }
 }

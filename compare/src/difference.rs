@@ -74,7 +74,7 @@ fn both(found: u8, expected: u8) -> String {
 }
 
 /// Which byte of which sector stands here; nothing where there is no telling.
-fn sector_around(image: &[u8], numbers: Numbers, at: usize) -> Option<String> {
+pub fn sector_around(image: &[u8], numbers: Numbers, at: usize) -> Option<String> {
     let kind = numbers.kind()?;
     let (sectors, arrangement) = (kind.sectors(), kind.arrangement());
     let (track, offset) = ((at / kind.track_bytes()) as u32, at % 256);

@@ -1,17 +1,22 @@
 //! Starting images of any kind beside those of the second program's own
 //! generators.
 
-use crate::kind::{Kind, Numbers};
+use crate::kind::{Kind, Numbers, MOST_TRACKS};
 use crate::writing::LONGEST_LIST;
 use reference::generate::{capacity, damage, fresh_name, sound_disc_of, Random};
 
-const MOST_TRACKS: usize = 80;
 /// A save's refusal where the directory would have to grow and cannot.
 const NO_ROOM: u32 = 8;
 const FREE_POINTER: usize = 0x10;
 const DIRECTORY_POINTER: usize = 0x12;
 const FREE_COUNT: usize = 0x14;
 pub const SLOTS_PER_DIRECTORY_SECTOR: usize = 15;
+/// Behind the link and the number of entries in use.
+const FIRST_SLOT: usize = 3;
+pub const ENTRY_BYTES: usize = 16;
+/// Of an entry.
+pub const ATTRIBUTE: usize = 15;
+const PROTECTED: u8 = 0x80;
 
 /// Mostly few, so that many calls take little time; one image in `chances` has
 /// more than 25, and as many have more than 5.
@@ -215,6 +220,44 @@ pub fn chain_of(image: &[u8], kind: Kind, head: [u8; 2]) -> Vec<[u8; 2]> {
         next = [image[at], image[at + 1]];
     }
     sectors
+}
+
+/// The byte positions of a sound disc's slots, in directory order.
+pub fn slots(image: &[u8], kind: Kind) -> Vec<usize> {
+    let of = |[track, sector]: [u8; 2]| {
+        let at = place(image, kind, [sector, track]);
+        (0..SLOTS_PER_DIRECTORY_SECTOR).map(move |slot| at + FIRST_SLOT + ENTRY_BYTES * slot)
+    };
+    let directory = directory_sectors(image, kind);
+    directory.into_iter().flat_map(of).collect()
+}
+
+/// The slots in use, in directory order.
+pub fn entries(image: &[u8], kind: Kind) -> Vec<[u8; ENTRY_BYTES]> {
+    let entry = |at: usize| std::array::from_fn(|byte| image[at + byte]);
+    let slots = slots(image, kind).into_iter();
+    slots
+        .map(entry)
+        .filter(|slot| slot != &[0; ENTRY_BYTES])
+        .collect()
+}
+
+/// Whether a file is protected.
+pub fn has_protected(image: &[u8], kind: Kind) -> bool {
+    let mut entries = entries(image, kind).into_iter();
+    entries.any(|entry| entry[ATTRIBUTE] >= PROTECTED)
+}
+
+/// Whether a free sector holds bytes behind its link.
+pub fn has_garbage(image: &[u8], kind: Kind) -> bool {
+    let mut free = free_sectors(image, kind).into_iter();
+    free.any(|sector| holds_bytes(image, kind, sector))
+}
+
+/// Whether a sector, track and sector, holds bytes behind its link.
+pub fn holds_bytes(image: &[u8], kind: Kind, [track, sector]: [u8; 2]) -> bool {
+    let at = place(image, kind, [sector, track]);
+    image[at + 2..at + 256].iter().any(|&byte| byte != 0)
 }
 
 /// 0/4 is the directory sector of a blank disc.

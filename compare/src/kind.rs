@@ -7,7 +7,7 @@ const TEN: u32 = 10;
 const PLAIN: u32 = 0;
 const MOVED: u32 = 1;
 const SECTOR_BYTES: usize = 256;
-const MOST_TRACKS: usize = 80;
+pub const MOST_TRACKS: usize = 80;
 
 /// Beside the small ones. Some would state nine or ten if they were cut to
 /// fewer bits.

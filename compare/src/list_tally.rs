@@ -4,6 +4,7 @@
 use crate::calls::{Call, BAD_LIST, SHORT};
 use crate::kind::Kind;
 use crate::list_case::{fault, places, Fault};
+use crate::marks::{Marks, Occasion};
 use crate::writing::LONGEST_LIST;
 use reference::command::Command;
 use std::collections::BTreeMap;
@@ -71,8 +72,8 @@ pub enum Mark {
     AnewLater,
 }
 
-impl Mark {
-    const ALL: [Mark; 13] = [
+impl Occasion for Mark {
+    const ALL: &'static [Mark] = &[
         Mark::Grown,
         Mark::GrownOneShort,
         Mark::Longest,
@@ -145,7 +146,7 @@ pub struct Made<'a> {
 pub struct ListTally {
     rooms: BTreeMap<(Call, Room), u64>,
     faults: BTreeMap<Fault, u64>,
-    marks: BTreeMap<Mark, u64>,
+    marks: Marks<Mark>,
 }
 
 impl ListTally {
@@ -199,9 +200,7 @@ impl ListTally {
     }
 
     fn mark(&mut self, occurred: bool, mark: Mark) {
-        if occurred {
-            *self.marks.entry(mark).or_default() += 1;
-        }
+        self.marks.mark(occurred, mark);
     }
 
     /// Names of what must occur where a kind of disc is stated and did not.
@@ -212,11 +211,7 @@ impl ListTally {
         let faults = Fault::all()
             .filter(|fault| !self.faults.contains_key(fault))
             .map(|fault| format!("replay of a list with {}", fault.name()));
-        let marks = Mark::ALL
-            .into_iter()
-            .filter(|mark| !self.marks.contains_key(mark))
-            .map(|mark| mark.name().to_string());
-        rooms.chain(faults).chain(marks).collect()
+        rooms.chain(faults).chain(self.marks.missing()).collect()
     }
 
     pub fn write(&self, out: &mut Formatter<'_>) -> Result {
@@ -231,11 +226,7 @@ impl ListTally {
             let count = self.faults.get(&fault).unwrap_or(&0);
             writeln!(out, "bad list: {}: {count}", fault.name())?;
         }
-        for mark in Mark::ALL {
-            let count = self.marks.get(&mark).unwrap_or(&0);
-            writeln!(out, "{}: {count}", mark.name())?;
-        }
-        Ok(())
+        self.marks.write(out)
     }
 }
 
@@ -250,7 +241,7 @@ impl ListTally {
         ListTally {
             rooms: rooms().map(|room| (room, 1)).collect(),
             faults: Fault::all().map(|fault| (fault, 1)).collect(),
-            marks: Mark::ALL.into_iter().map(|mark| (mark, 1)).collect(),
+            marks: Marks::full(),
         }
     }
 }
@@ -307,7 +298,7 @@ mod tests {
     fn what_did_not_occur_is_named() {
         let mut tally = ListTally::full();
         tally.rooms.remove(&(Call::Delete, Room::OneShort));
-        tally.marks.remove(&Mark::Grown);
+        tally.marks.remove(Mark::Grown);
         tally.faults.remove(&Fault {
             bad: Bad::AfterLast,
             behind_writes: true,
@@ -332,7 +323,7 @@ mod tests {
             let tally = counted(made(&protect(lent), number));
             let once = BTreeMap::from([((Call::Protect, room), 1)]);
             assert_eq!(tally.rooms, once);
-            assert!(tally.marks.is_empty());
+            assert!(tally.marks.met().is_empty());
         }
         assert!(counted(made(&protect(0), 4)).rooms.is_empty());
         let protect = protect(260);
@@ -340,7 +331,7 @@ mod tests {
             changed: false,
             ..made(&protect, DONE)
         };
-        assert!(counted(unchanged).marks.contains_key(&Mark::Unchanged));
+        assert!(counted(unchanged).marks.met().contains(&Mark::Unchanged));
     }
 
     fn marks_of(writes: &[u8], number: u32, said: Said, history: bool) -> Vec<Mark> {
@@ -352,7 +343,7 @@ mod tests {
             history,
             ..made(&command, number)
         });
-        tally.marks.into_keys().collect()
+        tally.marks.met()
     }
 
     #[test]

@@ -1,8 +1,9 @@
 //! Many commands on one image of each kind: what shows only after a long
 //! history, such as a free chain that has passed every sector in many orders.
 //! The lists of writes keep an older copy of each image up, as a card reader
-//! would. Cards are pulled amid their lists and repaired. After each command one
-//! sheet more is added to a table of totals.
+//! would. Cards are pulled amid their lists and repaired. Saves are deleted again
+//! and renames go on, on copies. After each command one sheet more is added to a
+//! table of totals.
 
 mod card;
 mod sheets;
@@ -10,6 +11,7 @@ mod sheets;
 use crate::difference::describe;
 use crate::discs;
 use crate::kind::{Kind, Stated};
+use crate::laws::{by_both, Accepted};
 use crate::met::Met;
 use crate::pair::Pair;
 use crate::run::{any_command, small_file_command, some_room, Draw};
@@ -152,7 +154,8 @@ impl Image {
     }
 
     fn run(&mut self, random: &mut Random, command: &Command) -> Result<(), String> {
-        let met = Met::by(self.pair.image(), self.kind.numbers());
+        let before = self.pair.image().to_vec();
+        let met = Met::by(&before, self.kind.numbers());
         let (answer, cut) = if self.has_pulls() && random.one_in(PULLED_IN) {
             self.pair.cut(random, command)?
         } else {
@@ -161,6 +164,9 @@ impl Image {
         self.tally.call(command, &answer, met);
         self.pulled += u64::from(cut.is_some());
         self.observe();
+        if answer.accepted() && cut.is_none() {
+            self.laws(random, command, &before)?;
+        }
         let made = cut.map(|(made, _)| made);
         self.card
             .take(command, (&answer, made), self.pair.image())?;
@@ -171,6 +177,20 @@ impl Image {
             self.pair.places_fault()
         };
         fault.map_or(Ok(()), Err)
+    }
+
+    /// What a law asks for after an accepted command. Drawn from a copy, so that
+    /// the history is the one without.
+    fn laws(&mut self, random: &Random, command: &Command, before: &[u8]) -> Result<(), String> {
+        let accepted = Accepted {
+            kind: self.kind,
+            writing: self.pair.writing(),
+            command,
+            before,
+            after: self.pair.image(),
+            on_copy: by_both,
+        };
+        accepted.ask(&mut random.clone(), &mut self.tally.laws)
     }
 
     fn observe(&mut self) {
@@ -225,6 +245,12 @@ impl fmt::Display for Image {
             out,
             "cards pulled: {}; moments between such and a repair: {}",
             self.pulled, self.silent_moments
+        )?;
+        let laws = &self.tally.laws;
+        writeln!(
+            out,
+            "on copies: saves deleted again: {}; renames that went on: {}",
+            laws.pairs, laws.triples
         )?;
         writeln!(
             out,

@@ -1,10 +1,12 @@
 //! Compares the library with the second program; the last line is
 //! 'N passed, M failed'.
 
+use compare::cancels::Cancels;
 use compare::cuts::Cuts;
 use compare::load::Load;
-use compare::options::{Options, USAGE};
+use compare::options::{Options, Task, USAGE};
 use compare::run::Driver;
+use compare::runs::Runs;
 use std::process::ExitCode;
 
 fn main() -> ExitCode {
@@ -16,35 +18,35 @@ fn main() -> ExitCode {
             return ExitCode::from(2);
         }
     };
+    let Options { seed, task, run } = options;
     // Known before the first call, should a call never come back.
-    println!("seed {}", options.seed);
-    match (options.load, options.cuts) {
-        (Some(commands), _) => load(options.seed, commands),
-        (None, Some(count)) => cuts(options, count),
-        (None, None) => compare(options),
+    println!("seed {seed}");
+    match task {
+        Task::Calls(count) => make(Driver::new(seed, run.is_some()), run, count),
+        Task::Cuts(count) => make(Cuts::new(seed), run, count),
+        Task::Cancels(count) => make(Cancels::new(seed), run, count),
+        Task::Load(commands) => load(seed, commands),
     }
 }
 
-/// The last line is 'cuts: N cuts, R repairs, M failed'.
-fn cuts(options: Options, count: u64) -> ExitCode {
-    let mut cuts = Cuts::new(options.seed);
-    let missing = match options.run {
+/// One run, or so many that enough is made.
+fn make(mut driver: impl Runs, run: Option<u64>, count: u64) -> ExitCode {
+    let missing = match run {
         Some(number) => {
-            cuts.run(number);
+            driver.run(number);
             Vec::new()
         }
         None => {
-            cuts.run_until(count);
-            cuts.missing()
+            driver.run_until(count);
+            driver.missing()
         }
     };
-    print!("{cuts}");
+    print!("{driver}");
     for name in &missing {
         println!("FAILED: never occurred: {name}");
     }
-    let failed = cuts.failed + missing.len() as u64;
-    let (made, repairs) = (cuts.cuts(), cuts.repairs());
-    println!("cuts: {made} cuts, {repairs} repairs, {failed} failed");
+    let failed = driver.failed() + missing.len() as u64;
+    println!("{}", driver.verdict(failed));
     ExitCode::from(u8::from(failed > 0))
 }
 
@@ -56,26 +58,4 @@ fn load(seed: u64, commands: u64) -> ExitCode {
     let failures = u8::from(failed.is_err());
     println!("load: {} commands, {failures} failed", load.commands());
     ExitCode::from(failures)
-}
-
-fn compare(options: Options) -> ExitCode {
-    let mut driver = Driver::new(options.seed, options.run.is_some());
-    let missing = match options.run {
-        Some(number) => {
-            driver.run(number);
-            Vec::new()
-        }
-        None => {
-            driver.run_until(options.calls);
-            driver.counts.missing()
-        }
-    };
-    println!("calls {}", driver.counts.calls());
-    print!("{}", driver.counts);
-    for name in &missing {
-        println!("FAILED: never occurred: {name}");
-    }
-    let failed = driver.counts.failed + missing.len() as u64;
-    println!("{} passed, {failed} failed", driver.counts.passed);
-    ExitCode::from(u8::from(failed > 0))
 }

@@ -151,24 +151,16 @@ impl Pair {
         command: &Command,
         old: &[u8],
     ) -> Result<Answer, String> {
-        let Numbers {
-            sectors,
-            arrangement,
-        } = self.numbers;
-        let expected = command.run(&mut self.second, sectors, arrangement);
-        let outcome = library::run(
+        let (library, second) = (&mut self.library, &mut self.second);
+        let answer = on_both(
             random,
-            self.writing,
+            (self.writing, self.numbers),
             command,
-            self.numbers,
-            &mut self.library,
-        );
-        let answer = outcome.answer;
-        let fault = outcome
-            .stray_write
-            .or_else(|| between_answers(&answer, &expected))
-            .or_else(|| self.image_difference())
-            .or_else(|| self.fault_by_book(command, &answer, old))
+            library,
+            second,
+        )?;
+        let fault = self
+            .fault_by_book(command, &answer, old)
             .or_else(|| self.list_fault(random, &answer, old));
         fault.map_or(Ok(answer), Err)
     }
@@ -281,6 +273,25 @@ impl Pair {
         beside("image", &self.library)
             .or_else(|| between_images(self.library.content(), &self.second, self.numbers))
     }
+}
+
+/// Runs a command on the same image in both programs and gives the answer, or what
+/// differs.
+pub fn on_both(
+    random: &mut Random,
+    (writing, numbers): (Writing, Numbers),
+    command: &Command,
+    library: &mut Lent,
+    second: &mut [u8],
+) -> Result<Answer, String> {
+    let expected = command.run(second, numbers.sectors, numbers.arrangement);
+    let outcome = library::run(random, writing, command, numbers, library);
+    let fault = outcome
+        .stray_write
+        .or_else(|| between_answers(&outcome.answer, &expected))
+        .or_else(|| beside("image", library))
+        .or_else(|| between_images(library.content(), second, numbers));
+    fault.map_or(Ok(outcome.answer), Err)
 }
 
 #[cfg(test)]

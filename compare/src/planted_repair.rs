@@ -388,26 +388,15 @@ fn old_chain(image: &[u8], kind: Kind) -> Vec<Place> {
     met
 }
 
-/// The slots in use, in directory order.
-fn entries(image: &[u8], kind: Kind) -> Vec<[u8; 16]> {
-    let directory = discs::directory_sectors(image, kind);
-    let slots = directory.into_iter().flat_map(|[track, sector]| {
-        let at = discs::place(image, kind, [sector, track]);
-        image[at + 3..at + 243].chunks_exact(16)
-    });
-    let entry = |slot: &[u8]| std::array::from_fn(|at| slot[at]);
-    slots.map(entry).filter(|slot| slot != &[0; 16]).collect()
-}
-
 /// The sectors of each file, in directory order.
 fn chains(image: &[u8], kind: Kind) -> Vec<Vec<Place>> {
     let chain = |entry: [u8; 16]| discs::chain_of(image, kind, [entry[12], entry[11]]);
-    entries(image, kind).into_iter().map(chain).collect()
+    discs::entries(image, kind).into_iter().map(chain).collect()
 }
 
 /// How many files there are, their sectors, and those of the directory.
 fn used(image: &[u8], kind: Kind) -> (usize, usize, usize) {
-    let entries = entries(image, kind);
+    let entries = discs::entries(image, kind);
     let lengths = entries
         .iter()
         .map(|entry| u16::from_le_bytes([entry[9], entry[10]]));

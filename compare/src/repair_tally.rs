@@ -3,6 +3,7 @@
 
 use crate::calls::SIZE;
 use crate::list_tally::Made;
+use crate::marks::{Marks, Occasion};
 use reference::command::Command;
 use reference::cuts::counts_as_done;
 use std::collections::BTreeMap;
@@ -28,8 +29,8 @@ pub enum Mark {
     GoneOn,
 }
 
-impl Mark {
-    const ALL: [Mark; 12] = [
+impl Occasion for Mark {
+    const ALL: &'static [Mark] = &[
         Mark::Same,
         Mark::Reordered,
         Mark::NoneFree,
@@ -66,7 +67,7 @@ impl Mark {
 pub struct RepairTally {
     /// By what the check says before the repair.
     rules: BTreeMap<u32, u64>,
-    marks: BTreeMap<Mark, u64>,
+    marks: Marks<Mark>,
 }
 
 impl RepairTally {
@@ -111,9 +112,7 @@ impl RepairTally {
     }
 
     fn mark(&mut self, occurred: bool, mark: Mark) {
-        if occurred {
-            *self.marks.entry(mark).or_default() += 1;
-        }
+        self.marks.mark(occurred, mark);
     }
 
     /// Names of what must occur where a kind of disc is stated and did not.
@@ -121,11 +120,7 @@ impl RepairTally {
         let rules = (0..=LAST_RULE)
             .filter(|rule| !self.rules.contains_key(rule))
             .map(|rule| format!("a repair where the check says {rule}"));
-        let marks = Mark::ALL
-            .into_iter()
-            .filter(|mark| !self.marks.contains_key(mark))
-            .map(|mark| mark.name().to_string());
-        rules.chain(marks).collect()
+        rules.chain(self.marks.missing()).collect()
     }
 
     pub fn write(&self, out: &mut Formatter<'_>) -> Result {
@@ -135,11 +130,7 @@ impl RepairTally {
         });
         let rules: Vec<String> = rules.collect();
         writeln!(out, "repairs where the check says {}", rules.join(", "))?;
-        for mark in Mark::ALL {
-            let count = self.marks.get(&mark).unwrap_or(&0);
-            writeln!(out, "{}: {count}", mark.name())?;
-        }
-        Ok(())
+        self.marks.write(out)
     }
 }
 
@@ -148,7 +139,7 @@ impl RepairTally {
     pub fn full() -> RepairTally {
         RepairTally {
             rules: (0..=LAST_RULE).map(|rule| (rule, 1)).collect(),
-            marks: Mark::ALL.into_iter().map(|mark| (mark, 1)).collect(),
+            marks: Marks::full(),
         }
     }
 }
@@ -180,7 +171,7 @@ mod tests {
     fn marks_of(made: Made<'_>) -> Vec<Mark> {
         let mut tally = RepairTally::default();
         tally.command(made);
-        tally.marks.into_keys().collect()
+        tally.marks.met()
     }
 
     fn delete() -> Command {
@@ -200,7 +191,7 @@ mod tests {
     fn what_did_not_occur_is_named() {
         let mut tally = RepairTally::full();
         tally.rules.remove(&4);
-        tally.marks.remove(&Mark::SecondCut);
+        tally.marks.remove(Mark::SecondCut);
         let expected = [
             "a repair where the check says 4",
             "a second cut before the repair",

@@ -1,10 +1,13 @@
 //! Runs: an image and a list of commands, or a table of totals and sheets, each
 //! run from its own seed.
 
+mod draw;
 mod totals;
 
 #[cfg(test)]
 mod planted;
+#[cfg(test)]
+mod planted_changes;
 #[cfg(test)]
 mod planted_lists;
 #[cfg(test)]
@@ -15,17 +18,22 @@ use crate::count::Counts;
 use crate::difference::describe;
 use crate::discs;
 use crate::kind::{Kind, Numbers, Stated};
-use crate::list_case::Target;
+use crate::laws::{by_both, Accepted};
 use crate::list_tally::Made;
 use crate::met::{is_sound, Met};
 use crate::pair::Pair;
+use crate::runs::Runs;
 use crate::several::Case;
 use crate::table::{self, AddSheet};
 use crate::twin::Twin;
-use crate::writing::{Writing, LONGEST_LIST, OF_LIBRARY, RECORD};
-use reference::command::{Answer, Buffer, Command};
-use reference::generate::{self, fresh_name, standing_names, Random, Replays};
-use reference::writes_book::list_length;
+use crate::writing::{Writing, OF_LIBRARY};
+use draw::{largest_disc_command, listing_command, misstated_disc_command};
+use draw::{replay_command, restoring_command};
+use reference::command::{Answer, Command};
+use reference::generate::{Random, Replays};
+use std::fmt;
+
+pub use draw::{any_command, small_file_command, some_room, Draw};
 
 const MOST_REPORTS: u64 = 10;
 const CASES_IN_A_RUN: usize = 16;
@@ -50,17 +58,15 @@ const REPLAYS_OF_SECOND_IN: usize = 2;
 const CUTS_IN: usize = 3;
 const PULLED_IN: usize = 2;
 /// One command of such a run in so many is a repair, where the image is sound and
-/// where it is not. Of these one in so many is a blank disc instead, and as many
-/// are replays.
+/// where it is not.
 const REPAIRS_OF_SOUND_IN: usize = 8;
 const REPAIRS_IN: usize = 3;
-const NEW_STARTS_IN: usize = 12;
 /// One call in so many is made on the other arrangement too.
 const TWIN_IN: usize = 3;
-
-/// How the commands of a run are drawn, with the image before them and its kind
-/// in view.
-pub type Draw = fn(&mut Random, &[u8], Kind) -> Command;
+/// Of accepted saves of longer sheets, whose law takes much time, one in so many is
+/// asked for it; all others and all renames are.
+const SHORT_SHEET: usize = 10_000;
+const LONG_SHEETS_ASKED_IN: usize = 8;
 
 pub struct Driver {
     seed: u64,
@@ -165,56 +171,6 @@ impl Driver {
         }
     }
 
-    pub fn run_until(&mut self, calls: u64) {
-        let mut number = 0;
-        while self.counts.calls() < calls {
-            self.run(number);
-            number += 1;
-        }
-    }
-
-    /// A run depends on the seed and its number alone.
-    pub fn run(&mut self, number: u64) {
-        let random = &mut random_of(self.seed, number);
-        if number == 0 {
-            return self.every_worker(random, number);
-        }
-        let shape = random.below(SHAPES);
-        if shape >= LISTS_AND_CASES {
-            return self.totals(random, number);
-        }
-        if shape >= LISTS {
-            return self.cases(random, number);
-        }
-        let numbers = Stated::draw(random, NO_KIND_IN).numbers(random);
-        let kind = numbers.of_image(random);
-        let (mut image, draw, most): (_, Draw, _) = match shape {
-            0..=3 => (discs::sound(random, kind), any_command, 50),
-            4 => (discs::sound(random, kind), listing_command, 50),
-            5..=6 => (discs::nearly_full(random, kind), any_command, 40),
-            7..=8 => (discs::small_files(random, kind), small_file_command, 40),
-            9 => (discs::wide_directory(random, kind), any_command, 20),
-            10..=11 => (discs::largest(random, kind), largest_disc_command, 30),
-            12..=13 => (discs::misstated(random, kind), misstated_disc_command, 12),
-            14..=26 => (discs::damaged(random, kind), any_command, 6),
-            _ => (discs::any_bytes(random, kind), any_command, 6),
-        };
-        if random.one_in(FITTED_IN) {
-            discs::fit_wrong_number(&mut image, numbers);
-        }
-        let run = Run {
-            number,
-            length: random.between(2, most),
-            image,
-            kind,
-            numbers,
-            draw,
-            with_replays: random.one_in(REPLAYS_IN),
-            with_cuts: random.one_in(CUTS_IN),
-        };
-        self.list(random, run);
-    }
-
     /// A check, whose moment is that of the start, then drawn commands. The
     /// run ends with the first difference, since the images differ from there.
     fn list(&mut self, random: &mut Random, run: Run) {
@@ -313,6 +269,7 @@ impl Driver {
         asked: Asked<'_>,
     ) -> Result<Answer, String> {
         let twin = some_twin(random, pair, asked);
+        let before = disc_for_laws(random, pair, asked);
         let answer = self.count(random, pair, asked)?;
         let number = answer.number();
         let stated = pair.numbers().stated();
@@ -330,8 +287,32 @@ impl Driver {
                 return Err(text);
             }
         }
+        if let (Some((kind, before)), true) = (before, answer.accepted()) {
+            self.laws(random, pair, asked.command, (kind, &before))?;
+        }
+        let tally = self.counts.of(stated);
         tally.moments += u64::from(pair.has_history());
         pair.moment_fault().map_or(Ok(answer), Err)
+    }
+
+    /// What a law asks for after an accepted command, drawn from a copy as well.
+    fn laws(
+        &mut self,
+        random: &Random,
+        pair: &Pair,
+        command: &Command,
+        (kind, before): (Kind, &[u8]),
+    ) -> Result<(), String> {
+        let accepted = Accepted {
+            kind,
+            writing: pair.writing(),
+            command,
+            before,
+            after: pair.image(),
+            on_copy: by_both,
+        };
+        let laws = &mut self.counts.of(Stated::Kind(kind)).laws;
+        accepted.ask(&mut random.clone(), laws)
     }
 
     /// Makes a command on both programs and counts what it shows.
@@ -375,6 +356,75 @@ impl Driver {
     }
 }
 
+impl Runs for Driver {
+    /// Further failures are only counted.
+    const MOST_FAILURES: u64 = u64::MAX;
+
+    fn run(&mut self, number: u64) {
+        let random = &mut random_of(self.seed, number);
+        if number == 0 {
+            return self.every_worker(random, number);
+        }
+        let shape = random.below(SHAPES);
+        if shape >= LISTS_AND_CASES {
+            return self.totals(random, number);
+        }
+        if shape >= LISTS {
+            return self.cases(random, number);
+        }
+        let numbers = Stated::draw(random, NO_KIND_IN).numbers(random);
+        let kind = numbers.of_image(random);
+        let (mut image, draw, most): (_, Draw, _) = match shape {
+            0..=3 => (discs::sound(random, kind), any_command, 50),
+            4 => (discs::sound(random, kind), listing_command, 50),
+            5..=6 => (discs::nearly_full(random, kind), any_command, 40),
+            7..=8 => (discs::small_files(random, kind), small_file_command, 40),
+            9 => (discs::wide_directory(random, kind), any_command, 20),
+            10..=11 => (discs::largest(random, kind), largest_disc_command, 30),
+            12..=13 => (discs::misstated(random, kind), misstated_disc_command, 12),
+            14..=26 => (discs::damaged(random, kind), any_command, 6),
+            _ => (discs::any_bytes(random, kind), any_command, 6),
+        };
+        if random.one_in(FITTED_IN) {
+            discs::fit_wrong_number(&mut image, numbers);
+        }
+        let run = Run {
+            number,
+            length: random.between(2, most),
+            image,
+            kind,
+            numbers,
+            draw,
+            with_replays: random.one_in(REPLAYS_IN),
+            with_cuts: random.one_in(CUTS_IN),
+        };
+        self.list(random, run);
+    }
+
+    fn made(&self) -> u64 {
+        self.counts.calls()
+    }
+
+    fn failed(&self) -> u64 {
+        self.counts.failed
+    }
+
+    fn missing(&self) -> Vec<String> {
+        self.counts.missing()
+    }
+
+    fn verdict(&self, failed: u64) -> String {
+        format!("{} passed, {failed} failed", self.counts.passed)
+    }
+}
+
+impl fmt::Display for Driver {
+    fn fmt(&self, out: &mut fmt::Formatter<'_>) -> fmt::Result {
+        writeln!(out, "calls {}", self.counts.calls())?;
+        self.counts.fmt(out)
+    }
+}
+
 /// The source of a run's numbers.
 pub fn random_of(seed: u64, number: u64) -> Random {
     Random::new(Random::new(seed ^ number.wrapping_mul(0xD1B5_4A32_D192_ED03)).draw())
@@ -392,191 +442,26 @@ fn first_to_apply(stated: Stated, expected: Option<u32>) -> Option<u32> {
     }
 }
 
+/// The disc before a command of which a law is asked; a pulled card leaves another
+/// disc than the law speaks of. Drawn from a copy, so that the run goes on as it
+/// would without.
+fn disc_for_laws(random: &Random, pair: &Pair, asked: Asked<'_>) -> Option<(Kind, Vec<u8>)> {
+    let kind = pair.numbers().kind()?;
+    let asks = match asked.command {
+        Command::Save { sheet, .. } if sheet.len() > SHORT_SHEET => {
+            random.clone().one_in(LONG_SHEETS_ASKED_IN)
+        }
+        Command::Save { .. } | Command::Rename { .. } => true,
+        _ => false,
+    };
+    (asks && !asked.pulled).then(|| (kind, pair.image().to_vec()))
+}
+
 /// The disc before a call, for a sample of the calls whose card stays.
 fn some_twin(random: &mut Random, pair: &Pair, asked: Asked<'_>) -> Option<Twin> {
     if !asked.pulled && random.one_in(TWIN_IN) {
         Twin::new(random, pair.image(), pair.numbers())
     } else {
         None
-    }
-}
-
-/// Of any sort.
-pub fn any_command(random: &mut Random, image: &[u8], kind: Kind) -> Command {
-    generate::command(random, image, kind.sectors(), kind.arrangement())
-}
-
-/// Of any sort, often made for the disc of the other number, and the rarer ones
-/// more often.
-fn misstated_disc_command(random: &mut Random, image: &[u8], kind: Kind) -> Command {
-    match random.below(12) {
-        0 => Command::Blank {
-            name: b"STATED".to_vec(),
-        },
-        1 => Command::List {
-            buffer: Buffer {
-                length: random.below(500),
-                fill: random.byte(),
-            },
-        },
-        2 => Command::View {
-            track: random.below(8) as u32,
-            sector: kind.sectors() + 1,
-        },
-        3..=6 => {
-            let other = kind.other_number(random);
-            any_command(random, image, other)
-        }
-        _ => any_command(random, image, kind),
-    }
-}
-
-/// Mostly saves and deletes of small files, so that the number of files often
-/// passes a multiple of fifteen, up and down.
-pub fn small_file_command(random: &mut Random, image: &[u8], kind: Kind) -> Command {
-    let name = match random.below(3) {
-        0 => format!("F{}", random.below(30)).into_bytes(),
-        _ => fresh_name(random),
-    };
-    match random.below(8) {
-        0 | 1 => any_command(random, image, kind),
-        2..=4 => Command::Delete {
-            name,
-            writes: some_room(random, 3),
-        },
-        _ => {
-            let (sectors, length) = random.pick(&[(1, 1), (1, 200), (1, 245), (2, 246)]);
-            Command::Save {
-                name,
-                page: 1,
-                start: 0x4000,
-                transfer: 0x4000,
-                sheet: vec![random.byte(); length],
-                writes: some_room(random, sectors + 2),
-            }
-        }
-    }
-}
-
-/// Mostly of standing files, with buffers that fit their lists in every way.
-fn listing_command(random: &mut Random, image: &[u8], kind: Kind) -> Command {
-    let standing = standing_names(image, kind.sectors(), kind.arrangement());
-    if standing.is_empty() || random.one_in(4) {
-        return any_command(random, image, kind);
-    }
-    let name = standing[random.below(standing.len())].clone();
-    match random.below(5) {
-        0 => Command::Delete {
-            name,
-            writes: any_room(random, 3),
-        },
-        1 => Command::Protect {
-            name,
-            on: random.below(2) as u32,
-            writes: any_room(random, 1),
-        },
-        2 => Command::Save {
-            name: fresh_name(random),
-            page: 0,
-            start: 0x2000,
-            transfer: 0x2000,
-            sheet: random.bytes(200),
-            writes: any_room(random, 3),
-        },
-        _ => Command::Rename {
-            old: name,
-            new: fresh_name(random),
-            writes: any_room(random, 1),
-        },
-    }
-}
-
-/// None, too short by any number of bytes or by one, exact, or longer.
-fn any_room(random: &mut Random, writes: usize) -> Buffer {
-    let exact = list_length(writes);
-    let length = match random.below(6) {
-        0 => 0,
-        1 => random.below(exact),
-        2 => exact - 1,
-        3 => exact + random.between(1, RECORD),
-        _ => exact,
-    };
-    Buffer {
-        length,
-        fill: random.byte(),
-    }
-}
-
-/// For a list of so many writes, or of one more, and mostly for both; sometimes
-/// a byte shorter.
-pub fn some_room(random: &mut Random, writes: usize) -> Buffer {
-    let exact = list_length(writes);
-    let one_more = exact + RECORD;
-    let longer = one_more + random.below(RECORD);
-    let length = match random.below(12) {
-        0 => exact - 1,
-        1 | 2 => exact,
-        3..=5 => one_more - 1,
-        6 | 7 => one_more,
-        _ => longer,
-    };
-    Buffer {
-        length,
-        fill: random.byte(),
-    }
-}
-
-/// A replay of a list of any sort, or what the second program draws for a run
-/// with replays.
-fn replay_command(random: &mut Random, image: &[u8], kind: Kind, replays: &mut Replays) -> Command {
-    if random.one_in(2) {
-        let writes = Target::new(image, kind).any_list(random);
-        return Command::Replay { writes };
-    }
-    replays.command(random, image, kind.sectors(), kind.arrangement())
-}
-
-/// What ends the silence after a cut: mostly a repair.
-fn restoring_command(random: &mut Random, image: &[u8], kind: Kind) -> Command {
-    match random.below(NEW_STARTS_IN) {
-        0 => Command::Blank {
-            name: b"PULLED".to_vec(),
-        },
-        1 => Command::Replay {
-            writes: Target::new(image, kind).good_list(random),
-        },
-        _ => Command::Repair,
-    }
-}
-
-/// Often of modules as long as there are any, under few names, or a blank disc.
-fn largest_disc_command(random: &mut Random, image: &[u8], kind: Kind) -> Command {
-    const LONGEST: usize = 65_536;
-    let [name, new] = [(); 2].map(|_| vec![random.pick(b"ABCD")]);
-    let buffer = Buffer {
-        length: LONGEST,
-        fill: random.byte(),
-    };
-    match random.below(16) {
-        0 => Command::Blank { name },
-        1..=3 => Command::Save {
-            name,
-            page: random.below(8) as u32,
-            start: 0,
-            transfer: random.draw() as u16,
-            sheet: random.bytes(LONGEST),
-            writes: Buffer {
-                length: LONGEST_LIST - random.pick(&[0, 0, 0, 1, RECORD]),
-                fill: random.byte(),
-            },
-        },
-        4..=6 => Command::Read { name, buffer },
-        7 => Command::List { buffer },
-        8 => Command::Rename {
-            old: name,
-            new,
-            writes: some_room(random, 1),
-        },
-        _ => any_command(random, image, kind),
     }
 }

@@ -2,6 +2,7 @@
 //! not.
 
 use crate::kind::Kind;
+use crate::marks::{Marks, Occasion};
 use crate::sheet_case::{can_both_hold, Bad, High};
 use crate::table::{BAD_SHEET, DONE, LIMIT, TOTAL};
 use reference::totals_book::pieces_of_workers;
@@ -25,8 +26,8 @@ pub enum Mark {
     BothOrders,
 }
 
-impl Mark {
-    const ALL: [Mark; 8] = [
+impl Occasion for Mark {
+    const ALL: &'static [Mark] = &[
         Mark::EndAlone,
         Mark::Longer,
         Mark::FirstWorker,
@@ -56,7 +57,7 @@ pub struct SheetTally {
     answers: BTreeMap<u32, u64>,
     /// Calls made for a reason for 12 and one for 13, by the places of both.
     reasons: [[u64; High::ALL.len()]; Bad::ALL.len()],
-    marks: BTreeMap<Mark, u64>,
+    marks: Marks<Mark>,
     /// Sheets saved to a disc, read back and handed on, by its kind.
     read_back: BTreeMap<Kind, u64>,
 }
@@ -81,9 +82,7 @@ impl SheetTally {
             (pieces.last() > Some(&0), Mark::LastWorker),
             (reaches_limit, Mark::AtLimit),
         ] {
-            if occurred {
-                self.mark(mark);
-            }
+            self.marks.mark(occurred, mark);
         }
     }
 
@@ -93,16 +92,14 @@ impl SheetTally {
             return;
         }
         let highest = grown(totals, pieces).max().unwrap_or_default();
-        if highest == u64::from(LIMIT) + 1 {
-            self.mark(Mark::OneAbove);
-        }
-        if highest > u64::from(u32::MAX) {
-            self.mark(Mark::Beyond32Bits);
-        }
+        let one_above = highest == u64::from(LIMIT) + 1;
+        self.marks.mark(one_above, Mark::OneAbove);
+        let beyond = highest > u64::from(u32::MAX);
+        self.marks.mark(beyond, Mark::Beyond32Bits);
     }
 
     pub fn mark(&mut self, mark: Mark) {
-        *self.marks.entry(mark).or_default() += 1;
+        self.marks.mark(true, mark);
     }
 
     pub fn reasons(&mut self, bad: Bad, high: High) {
@@ -136,15 +133,12 @@ impl SheetTally {
         let reasons = cases()
             .filter(|&case| self.count_of(case) == 0)
             .map(|(bad, high)| format!("{}, {}", bad.name(), high.name()));
-        let marks = Mark::ALL
-            .iter()
-            .filter(|mark| !self.marks.contains_key(mark))
-            .map(|mark| mark.name().to_string());
         let discs = Kind::ALL
             .iter()
             .filter(|kind| !self.read_back.contains_key(kind))
             .map(|kind| format!("read back from {}", kind.name()));
-        let names = answers.chain(both).chain(reasons).chain(marks).chain(discs);
+        let of_calls = answers.chain(both).chain(reasons);
+        let names = of_calls.chain(self.marks.missing()).chain(discs);
         names.map(|name| format!("{CALL}: {name}")).collect()
     }
 
@@ -161,10 +155,7 @@ impl SheetTally {
             let counts: Vec<String> = counts.collect();
             writeln!(out, "{}: {}", bad.name(), counts.join(", "))?;
         }
-        for mark in Mark::ALL {
-            let count = self.marks.get(&mark).unwrap_or(&0);
-            writeln!(out, "{}: {count}", mark.name())?;
-        }
+        self.marks.write(out)?;
         let discs = Kind::ALL.map(|kind| {
             let count = self.read_back.get(&kind).unwrap_or(&0);
             format!("{}: {count}", kind.name())
@@ -208,7 +199,7 @@ mod tests {
         SheetTally {
             answers: ANSWERS.into_iter().map(|number| (number, 1)).collect(),
             reasons: [[1; 4]; 9],
-            marks: Mark::ALL.into_iter().map(|mark| (mark, 1)).collect(),
+            marks: Marks::full(),
             read_back: Kind::ALL.into_iter().map(|kind| (kind, 1)).collect(),
         }
     }
@@ -226,7 +217,7 @@ mod tests {
         let mut tally = full();
         tally.answers.remove(&TOTAL);
         tally.reasons[1][2] = 0;
-        tally.marks.remove(&Mark::AtLimit);
+        tally.marks.remove(Mark::AtLimit);
         tally.read_back.remove(&Kind::Moved);
         let expected = [
             "add sheet: answering 13",
@@ -249,7 +240,7 @@ mod tests {
         let mut totals = vec![0; 500];
         totals[499] = total;
         tally.call(&totals, sheet, number);
-        tally.marks.into_keys().collect()
+        tally.marks.met()
     }
 
     #[test]

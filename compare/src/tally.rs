@@ -5,7 +5,9 @@ mod report;
 
 use crate::calls::{Call, SIZE};
 use crate::kind::{Kind, Stated};
+use crate::law_tally::LawTally;
 use crate::list_tally::{ListTally, Made};
+use crate::marks::Tallied;
 use crate::met::{Met, Size};
 use crate::repair_tally::RepairTally;
 use reference::command::{Answer, Command};
@@ -43,6 +45,7 @@ pub struct Tally {
     pub moments: u64,
     lists: ListTally,
     repairs: RepairTally,
+    pub laws: LawTally,
 }
 
 impl Tally {
@@ -64,6 +67,7 @@ impl Tally {
             moments: 0,
             lists: ListTally::default(),
             repairs: RepairTally::default(),
+            laws: LawTally::default(),
         }
     }
 
@@ -203,6 +207,7 @@ impl Tally {
         }
         missing.extend(self.lists.missing());
         missing.extend(self.repairs.missing());
+        missing.extend(self.laws.missing());
         missing
     }
 }
@@ -255,6 +260,7 @@ mod tests {
             moments: 1,
             lists: ListTally::full(),
             repairs: RepairTally::full(),
+            laws: LawTally::full(),
             ..tally
         }
     }
@@ -283,6 +289,7 @@ mod tests {
         tally.moments = 0;
         tally.lists = ListTally::default();
         tally.repairs = RepairTally::default();
+        tally.laws = LawTally::default();
         let expected = [
             "read answering 9",
             "rename with 6 and 5",
@@ -298,7 +305,12 @@ mod tests {
             "moments of demand 3",
         ];
         let of_calls = expected.len();
-        let others = [tally.lists.missing(), tally.repairs.missing()].concat();
+        let others = [
+            tally.lists.missing(),
+            tally.repairs.missing(),
+            tally.laws.missing(),
+        ]
+        .concat();
         assert_eq!(tally.missing()[..of_calls], expected);
         assert_eq!(tally.missing()[of_calls..], others);
     }

@@ -1,5 +1,5 @@
 //! Seeded generators of discs, sound and damaged, of command lists with cards
-//! pulled or not, and of runs of weekly totals.
+//! pulled or not, of runs whose calls cancel, and of runs of weekly totals.
 //!
 //! A seed gives discs for either number of sectors. They are laid out plain and
 //! arranged at the end, so that a seed gives the same disc in either
@@ -7,6 +7,7 @@
 //! nine sectors if nine is stated and else of ten, and its commands are made for
 //! that, so that only the numbers are wrong.
 
+mod cancels;
 mod commands;
 mod cuts;
 mod damage;
@@ -18,6 +19,7 @@ mod repairs;
 mod replays;
 mod sheets;
 
+pub use cancels::{cancels_run, CancelsRun};
 pub use commands::{command, command_list};
 pub use cuts::{step_list, Cuts};
 pub use damage::{break_rule, damage, damaged_disc, flip_byte, wrong_length};

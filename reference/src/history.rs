@@ -13,7 +13,8 @@ use crate::writes_book::{list_fault, list_length};
 use crate::{check, list, read, save, Filled, Reading};
 
 const SLOTS_PER_DIRECTORY_SECTOR: usize = 15;
-const WHOLE_PAGE: usize = 65_536;
+/// The most bytes that a module has.
+pub(crate) const WHOLE_PAGE: usize = 65_536;
 /// What lent buffers hold before a call.
 const FILL: u8 = 0xA5;
 /// What the sheets of tried saves are made of.
@@ -343,7 +344,7 @@ fn refused_filling(number: u32) -> Filled {
 }
 
 /// The module formula, as the document words it.
-fn module_sectors(length: usize) -> usize {
+pub(crate) fn module_sectors(length: usize) -> usize {
     if length <= 245 {
         1
     } else {

@@ -12,6 +12,7 @@
 
 #![forbid(unsafe_code)]
 
+pub mod cancels;
 mod check;
 pub mod command;
 mod commands;

@@ -27,6 +27,8 @@ static const struct test tests[] = {
     { "replay", test_replay },
     { "repair", test_repair },
     { "cuts", test_cuts },
+    { "cancels", test_cancels },
+    { "scattered", test_scattered },
     { "sizes", test_sizes },
     { "order", test_order },
     { "arrangement", test_arrangement },

@@ -1,12 +1,12 @@
 /* Repairs: what one leaves byte for byte, and every answer. The cuts after
  * which it is called have their own file. */
-#include <stdio.h>
 #include <string.h>
 
 #include "calls.h"
 #include "damages.h"
 #include "repairs.h"
 #include "report.h"
+#include "scattered.h"
 #include "tests.h"
 
 /* A blank disc without its free chain becomes blank again, whatever stands in
@@ -172,116 +172,13 @@ static void size_first(void)
     }
 }
 
-/* Numbers for the discs below, the same in every run. */
-static uint32_t random_state;
-
-static unsigned below(unsigned limit)
-{
-    random_state = random_state * 1103515245 + 12345;
-    return (random_state >> 16) % limit;
-}
-
-/* The sectors of a disc but 0/1, in any order, and how many are dealt out. */
-struct pack {
-    struct place places[CHAIN_MOST];
-    unsigned count, dealt;
-};
-
-static void shuffle(struct pack *pack, unsigned tracks)
-{
-    unsigned number;
-
-    pack->count = pack->dealt = 0;
-    for (number = 1; number < tracks * disc_sectors; number++) {
-        unsigned other = below(pack->count + 1);
-
-        pack->places[pack->count++] = pack->places[other];
-        pack->places[other] =
-            place(number / disc_sectors, number % disc_sectors + 1);
-    }
-}
-
-/* Links the next sectors of the pack, and marks them. The end link's track may
- * be any. */
-static struct place *deal(struct disc *disc, struct taken *taken,
-                          struct pack *pack, unsigned length)
-{
-    struct place *places = pack->places + pack->dealt;
-    unsigned i;
-
-    for (i = 0; i < length; i++) {
-        int is_last = i + 1 == length;
-
-        put_link(disc, places[i],
-                 is_last ? place(below(256), 0) : places[i + 1]);
-        mark(taken, places[i]);
-    }
-    pack->dealt += length;
-    return places;
-}
-
-static void deal_directory(struct disc *disc, struct taken *taken,
-                           struct pack *pack, unsigned length)
-{
-    struct place *directory = deal(disc, taken, pack, length);
-    unsigned i;
-
-    disc->bytes[0x12] = (uint8_t)directory[0].sector;
-    disc->bytes[0x13] = (uint8_t)directory[0].track;
-    for (i = 0; i < length; i++)
-        memset(at(disc, directory[i], 2), 0, 1 + 15 * 16);
-}
-
-/* Files in any slots of the directory, which are the first of the pack, as long
- * as `spare` sectors are left. */
-static void deal_files(struct disc *disc, struct taken *taken,
-                       struct pack *pack, unsigned directory_length,
-                       unsigned spare)
-{
-    unsigned slot, slots = 15 * directory_length;
-    char name[10];
-
-    for (slot = 0; slot < slots; slot++) {
-        unsigned left = pack->count - pack->dealt, length = 1 + below(6);
-        struct place *file;
-
-        if (below(4) == 0 || left < spare + length)
-            continue;
-        file = deal(disc, taken, pack, length);
-        sprintf(name, "F%03u  X  ", slot % 1000);
-        put_entry(disc, pack->places[slot / 15], slot % 15, name, length,
-                  file[0], file[length - 1]);
-        taken->used_count += length;
-    }
-}
-
-/* A disc of any bytes, but that rules 1 to 5 hold: directory and files lie
- * anywhere, and at least `spare` sectors are in neither. Which, is known from
- * how the disc is made. */
-static void make_scattered(struct disc *disc, struct taken *taken,
-                           unsigned tracks, unsigned spare)
-{
-    unsigned directory_length = 1 + below(tracks < 3 ? 2 : 5);
-    static struct pack pack;
-    size_t i;
-
-    disc->length = track_size() * tracks;
-    for (i = 0; i < disc->length; i++)
-        disc->bytes[i] = (uint8_t)below(256);
-    memset(taken, 0, sizeof *taken);
-    mark(taken, place(0, 1));
-    shuffle(&pack, tracks);
-    deal_directory(disc, taken, &pack, directory_length);
-    deal_files(disc, taken, &pack, directory_length, spare);
-}
-
 static void scattered_discs(unsigned tracks, unsigned discs)
 {
     struct disc disc, expected;
     struct taken taken;
     unsigned i;
 
-    random_state = tracks;
+    begin_random(tracks);
     for (i = 0; i < discs; i++) {
         make_scattered(&disc, &taken, tracks, i % 4);
         expected = disc;
@@ -299,7 +196,7 @@ static void any_bytes(unsigned tracks)
     struct taken taken;
     size_t i;
 
-    random_state = 77 + tracks;
+    begin_random(77 + tracks);
     disc.length = track_size() * tracks;
     for (i = 0; i < disc.length; i++)
         disc.bytes[i] = (uint8_t)below(256);

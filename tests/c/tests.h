@@ -17,6 +17,8 @@ void test_writes(void);
 void test_replay(void);
 void test_repair(void);
 void test_cuts(void);
+void test_cancels(void);
+void test_scattered(void);
 void test_sizes(void);
 void test_order(void);
 void test_arrangement(void);

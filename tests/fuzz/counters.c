@@ -88,6 +88,16 @@ static const char *const cut_names[CUT_OCCASIONS] = {
     [CUT_REPAIRED] = "repaired"
 };
 
+static const char *const cancel_names[CANCEL_OCCASIONS] = {
+    [CANCEL_STOPS] = "stops", [CANCEL_REACHES] = "reaches",
+    [CANCEL_ONLY] = "only-one", [CANCEL_KEEPS_END] = "keeps-end",
+    [CANCEL_CLEARS_END] = "clears-end", [CANCEL_BYTE_2] = "byte-2",
+    [CANCEL_BYTE_255] = "byte-255", [CANCEL_SAME] = "same",
+    [CANCEL_EARLIER] = "earlier", [CANCEL_GROWS] = "grows",
+    [RENAME_BACK] = "back", [RENAME_ON] = "on", [RENAME_ITSELF] = "itself",
+    [RENAME_TAKEN] = "taken", [RENAME_NO_NAME] = "no-name"
+};
+
 static const char *const sheet_names[SHEET_OCCASIONS] = {
     [SHEET_TABLE] = "table", [SHEET_KIND] = "kind", [SHEET_CUT] = "cut",
     [SHEET_NO_END] = "no-end", [SHEET_AFTER_END] = "after-end",
@@ -109,7 +119,8 @@ static const char *const sheet_names[SHEET_OCCASIONS] = {
 #define LIST_FEATURES (SIZE_FEATURES + 3 * SIZES)
 #define REPAIR_FEATURES (LIST_FEATURES + DISC_KINDS * LIST_OCCASIONS)
 #define CUT_FEATURES (REPAIR_FEATURES + DISC_KINDS * REPAIR_OCCASIONS)
-#define SHEET_FEATURES (CUT_FEATURES + DISC_KINDS * CUT_OCCASIONS)
+#define CANCEL_FEATURES (CUT_FEATURES + DISC_KINDS * CUT_OCCASIONS)
+#define SHEET_FEATURES (CANCEL_FEATURES + DISC_KINDS * CANCEL_OCCASIONS)
 
 /* libFuzzer clears this section before each input and reads it after. */
 __attribute__((section("__libfuzzer_extra_counters")))
@@ -121,6 +132,7 @@ static unsigned long occasions[DISC_KINDS][OCCASIONS];
 static unsigned long list_occasions[DISC_KINDS][LIST_OCCASIONS];
 static unsigned long repair_occasions[DISC_KINDS][REPAIR_OCCASIONS];
 static unsigned long cut_occasions[DISC_KINDS][CUT_OCCASIONS];
+static unsigned long cancel_occasions[DISC_KINDS][CANCEL_OCCASIONS];
 static unsigned long sheet_answers[NUMBERS];
 static unsigned long sheet_occasions[SHEET_OCCASIONS];
 static int is_on_twin;
@@ -219,6 +231,15 @@ void count_cut_occasion(struct stated stated, enum cut_occasion occasion)
     mark(CUT_FEATURES + kind * CUT_OCCASIONS + occasion);
 }
 
+void count_cancel_occasion(struct stated stated,
+                           enum cancel_occasion occasion)
+{
+    enum kind kind = kind_of(stated);
+
+    cancel_occasions[kind][occasion]++;
+    mark(CANCEL_FEATURES + kind * CANCEL_OCCASIONS + occasion);
+}
+
 void count_sheet_answer(uint32_t number)
 {
     REQUIRE(number < NUMBERS, "a number that is no refusal");
@@ -313,6 +334,10 @@ static void print_occasions(void)
     for (kind = 0; kind < DISC_KINDS; kind++)
         print_counts("cuts", table_names[kind], cut_occasions[kind],
                      CUT_OCCASIONS);
+    print_names(cancel_names, CANCEL_OCCASIONS);
+    for (kind = 0; kind < DISC_KINDS; kind++)
+        print_counts("cancels", table_names[kind], cancel_occasions[kind],
+                     CANCEL_OCCASIONS);
     print_names(sheet_names, SHEET_OCCASIONS);
     print_counts("sheet", NO_DISC, sheet_occasions, SHEET_OCCASIONS);
 }

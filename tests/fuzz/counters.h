@@ -121,6 +121,31 @@ enum cut_occasion {
 /* What is stated is a kind of disc. */
 void count_cut_occasion(struct stated stated, enum cut_occasion occasion);
 
+/* What has to occur with a save and the delete of its file, and with two
+ * renames in a row, for each kind of disc. */
+enum cancel_occasion {
+    CANCEL_STOPS,      /* the free chain goes on behind the file */
+    CANCEL_REACHES,    /* the file took all of it */
+    CANCEL_ONLY,       /* the same, and it was of one sector */
+    CANCEL_KEEPS_END,  /* the end isn't reached; its track byte isn't 0 */
+    CANCEL_CLEARS_END, /* the end is reached; its track byte differs */
+    CANCEL_BYTE_2,     /* byte 2 of one of the file's sectors differs */
+    CANCEL_BYTE_255,   /* byte 255 does */
+    CANCEL_SAME,       /* no byte behind the links differs */
+    CANCEL_EARLIER,    /* the slot is in a directory sector before the last */
+    CANCEL_GROWS,      /* the directory grows, and nothing is asked */
+    RENAME_BACK,       /* the third name is the first */
+    RENAME_ON,         /* it is another */
+    RENAME_ITSELF,     /* 5: it is the second */
+    RENAME_TAKEN,      /* 5: it is another file's */
+    RENAME_NO_NAME,    /* 2 */
+    CANCEL_OCCASIONS
+};
+
+/* What is stated is a kind of disc. */
+void count_cancel_occasion(struct stated stated,
+                           enum cancel_occasion occasion);
+
 /* Counts an answer of the call that adds a sheet up, which is on no disc. */
 void count_sheet_answer(uint32_t number);
 

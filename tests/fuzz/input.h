@@ -26,7 +26,8 @@ enum command {
     COMMAND_SAVE,    /* name, page, start (2), transfer (2), sheet, buffer */
     COMMAND_SAVES,   /* count (1), name (1), sheet: many files */
     COMMAND_DELETE,  /* name, buffer */
-    COMMAND_RENAME,  /* old name, new name, buffer */
+    COMMAND_RENAME,  /* old name, new name, third name, buffer: the third is
+                        that of a second rename, made on a copy */
     COMMAND_PROTECT, /* name, number, buffer */
     COMMAND_REPLAY,  /* list of writes */
     COMMAND_REPAIR,

@@ -2,6 +2,7 @@
 
 #include <string.h>
 
+#include "cancels.h"
 #include "counters.h"
 #include "expected.h"
 #include "finding.h"
@@ -134,6 +135,7 @@ static void save(struct text name, const struct module *module,
     if (filled.number == TANDOS_DONE) {
         end_command();
         require_saved(before, now, name, module, listed.writes);
+        require_save_cancels(before, now, name, module, buffer_length);
     }
 }
 
@@ -192,13 +194,15 @@ static void run_delete(struct input *input)
 
 static void run_rename(struct input *input)
 {
-    struct name old_name, new_name;
+    struct name old_name, new_name, third_name;
+    struct renames renames;
     size_t length;
     tandos_filled filled;
     struct listed_change listed;
 
     take_name(input, &old_name);
     take_name(input, &new_name);
+    take_name(input, &third_name);
     length = take_buffer_length(input, TANDOS_ENTRY_WRITES_SIZE);
     filled = call_rename(&now->image, old_name.text, new_name.text, length);
     listed = listed_by(filled, length, TANDOS_ENTRY_WRITES_SIZE);
@@ -210,6 +214,11 @@ static void run_rename(struct input *input)
         end_command();
         require_renamed(before, now, old_name.text, new_name.text,
                         listed.writes);
+        renames.first = old_name.text;
+        renames.second = new_name.text;
+        renames.third = third_name.text;
+        renames.buffer_length = length;
+        require_renames_join(before, now, renames);
     }
 }
 

@@ -6,6 +6,9 @@
 
 #define SEED_MOST 4096
 
+/* The last of the legal names. */
+#define NO_FILES_NAME (NAME_TYPED - 1)
+
 const char *const kind_names[STATED_KINDS] = {
     [STATED_NINE] = "nine", [STATED_PLAIN] = "plain", [STATED_MOVED] = "moved"
 };
@@ -21,6 +24,16 @@ void choose_kind(enum stated_kind kind)
 {
     seed_kind = kind;
     seed_sectors = kind == STATED_NINE ? 9 : 10;
+}
+
+int free_of(int tracks)
+{
+    return seed_sectors * tracks - 2;
+}
+
+int last_passing(void)
+{
+    return seed_kind == STATED_NINE ? 9 : 8;
 }
 
 void begin_empty(void)
@@ -60,9 +73,15 @@ void delete_lent(int name, enum buffer buffer)
     put(COMMAND_DELETE, name, (int)buffer, -1);
 }
 
+void put_renamed(int old_name, int new_name, enum buffer buffer)
+{
+    put(old_name, new_name, NO_FILES_NAME, (int)buffer, -1);
+}
+
 void rename_lent(int old_name, int new_name, enum buffer buffer)
 {
-    put(COMMAND_RENAME, old_name, new_name, (int)buffer, -1);
+    put(COMMAND_RENAME, -1);
+    put_renamed(old_name, new_name, buffer);
 }
 
 void protect_lent(int name, int on, enum buffer buffer)
@@ -85,6 +104,11 @@ void rename_to(int old_name, int new_name)
     rename_lent(old_name, new_name, BUFFER_EXACT);
 }
 
+void rename_twice(int old_name, int new_name, int third_name)
+{
+    put(COMMAND_RENAME, old_name, new_name, third_name, BUFFER_EXACT, -1);
+}
+
 void protect(int name, int on)
 {
     protect_lent(name, on, BUFFER_EXACT);
@@ -93,6 +117,16 @@ void protect(int name, int on)
 void replay(int which)
 {
     put(COMMAND_REPLAY, WRITES_KEPT, which, WRITES_WHOLE, -1);
+}
+
+void put_built(int groups)
+{
+    put(COMMAND_REPLAY, WRITES_BUILT, groups, -1);
+}
+
+void put_write(int track, int sector, int fill)
+{
+    put(WRITE_ON_DISC, track, sector, fill, -1);
 }
 
 void replay_nothing(void)
@@ -116,6 +150,11 @@ void save_sectors(int name, int sectors, int more)
 void save_many(int first, int count)
 {
     put(COMMAND_SAVES, count, first, SHEET_1, 1, -1);
+}
+
+void put_byte(int sector, int byte, int value)
+{
+    put(COMMAND_BYTE, sector, 0, byte, value, -1);
 }
 
 void resize(int sectors, int more)

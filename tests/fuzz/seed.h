@@ -14,6 +14,17 @@ extern int seed_sectors;
 
 void choose_kind(enum stated_kind kind);
 
+/* The sectors 0/4, the directory of a blank disc, and 0/7, its first free one,
+ * by their numbers. */
+#define SECTOR_DIRECTORY 3
+#define SECTOR_FIRST_FREE 6
+
+/* The free sectors of a blank disc. */
+int free_of(int tracks);
+
+/* The sector that passes last on a track. */
+int last_passing(void);
+
 /* Begins a seed without a byte. */
 void begin_empty(void);
 
@@ -27,7 +38,11 @@ void put(int byte, ...);
 void save(int name, enum sheet sheet);
 void delete(int name);
 void rename_to(int old_name, int new_name);
+void rename_twice(int old_name, int new_name, int third_name);
 void protect(int name, int on);
+
+/* What a rename takes. The third name is one that no seed gives a file. */
+void put_renamed(int old_name, int new_name, enum buffer buffer);
 
 /* The same with another buffer. */
 void save_lent(int name, enum sheet sheet, enum buffer buffer);
@@ -37,6 +52,11 @@ void protect_lent(int name, int on, enum buffer buffer);
 
 /* The list that a command gave, 0 for the last one, replayed as it is. */
 void replay(int which);
+
+/* The start of a list of so many writes, and one of them: sector 1 is numbered
+ * 0 here. */
+void put_built(int groups);
+void put_write(int track, int sector, int fill);
 
 /* No bytes, which are no list. */
 void replay_nothing(void);
@@ -48,6 +68,9 @@ void save_sectors(int name, int sectors, int more);
 
 /* Files of one sector. */
 void save_many(int first, int count);
+
+/* A byte of the sector of this number becomes another. */
+void put_byte(int sector, int byte, int value);
 
 /* An image of so many sectors, and `more` bytes. */
 void resize(int sectors, int more);

@@ -8,20 +8,11 @@
 #include <string.h>
 
 #include "seed.h"
+#include "seeds_cancels.h"
 #include "seeds_repairs.h"
 #include "seeds_sheets.h"
 #include "seeds_stated.h"
 #include "seeds_writes.h"
-
-/* On a disc of one track: 0/4 is the directory, 0/7 the first free sector. */
-#define SECTOR_DIRECTORY 3
-#define SECTOR_FIRST_FREE 6
-
-/* The free sectors of a blank disc. */
-static int free_of(int tracks)
-{
-    return seed_sectors * tracks - 2;
-}
 
 static void seed_commands(void)
 {
@@ -305,14 +296,12 @@ static void end_above(const char *name)
 
 static void seed_above(void)
 {
-    int last_passing = seed_kind == STATED_NINE ? 9 : 8;
-
     begin(1);
-    put_above_link(last_passing - 1, 0);
+    put_above_link(last_passing() - 1, 0);
     end_above("above-free-link");
     begin(1);
     save_sectors(0, seed_sectors - 1, 0);
-    put_above_link(last_passing - 1, 0);
+    put_above_link(last_passing() - 1, 0);
     end_above("above-file-link");
     begin(1);
     save_sectors(0, free_of(1), 0);
@@ -373,6 +362,7 @@ static void write_seeds(void)
     seed_views();
     write_writes_seeds();
     write_repair_seeds();
+    write_cancel_seeds();
     write_stated_seeds();
 }
 

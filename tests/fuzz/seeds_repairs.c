@@ -6,10 +6,6 @@
 
 #define COUNT(array) (sizeof(array) / sizeof(array)[0])
 
-/* On a disc of one track: 0/4 is the directory, 0/7 the first free sector. */
-#define SECTOR_DIRECTORY 3
-#define SECTOR_FIRST_FREE 6
-
 /* Bytes of the system sector as COMMAND_SYSTEM numbers them. */
 enum system_byte {
     FREE_SECTOR, FREE_TRACK, DIRECTORY_SECTOR, DIRECTORY_TRACK, FREE_LOW,
@@ -24,11 +20,6 @@ static void put_system(enum system_byte byte, int value)
 static void put_link(int sector, int track, int to)
 {
     put(COMMAND_LINK, sector, 0, track, to, -1);
-}
-
-static void put_byte(int sector, int byte, int value)
-{
-    put(COMMAND_BYTE, sector, 0, byte, value, -1);
 }
 
 /* What a disc shows after a repair, and that its free chain can be used. */
@@ -62,7 +53,7 @@ static void cut_delete(int writes, int name)
 static void cut_rename(int writes, int old_name, int new_name)
 {
     cut(writes, CUT_RENAME);
-    put(old_name, new_name, BUFFER_EXACT, -1);
+    put_renamed(old_name, new_name, BUFFER_EXACT);
 }
 
 static void cut_protect(int writes, int name, int on)
@@ -256,7 +247,6 @@ static void seed_kept(void)
     static const int bytes[] = {
         0x00, 0x01, 0x0F, 0x18, 0x20, 0x21, 0x3F, 0x40, 0x60, 0xFF
     };
-    int last_passing = seed_kind == STATED_NINE ? 9 : 8;
     size_t i;
 
     begin(0);
@@ -267,7 +257,7 @@ static void seed_kept(void)
     put_byte(SECTOR_DIRECTORY, 243, 0xB0);
     put_byte(SECTOR_DIRECTORY, 255, 0xB1);
     put_byte(SECTOR_DIRECTORY, 0, 7);
-    put_byte(last_passing - 1, 0, 7);
+    put_byte(last_passing() - 1, 0, 7);
     repair();
     for (i = 2; i < 256; i += 127) {
         put_byte(1, (int)i, 0xC0);
@@ -560,7 +550,7 @@ static void seed_cut_refused(void)
     cut(1, CUT_DELETE);
     put(0, BUFFER_ONE_LESS, -1);
     cut(1, CUT_RENAME);
-    put(0, 1, BUFFER_EMPTY, -1);
+    put_renamed(0, 1, BUFFER_EMPTY);
     cut(1, CUT_PROTECT);
     put(7, 1, BUFFER_EXACT, -1);
     cut_save(1, 0, SHEET_1);

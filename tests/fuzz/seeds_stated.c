@@ -45,7 +45,8 @@ static void put_right_calls(struct bytes stated)
     put_command(stated, COMMAND_VIEW, 0, 2);
     put_stated(stated);
     save(1, SHEET_1);
-    put_listed(stated, COMMAND_RENAME, bytes_of(0, 2), BUFFER_EXACT);
+    put_stated(stated);
+    rename_to(0, 2);
     put_listed(stated, COMMAND_PROTECT, bytes_of(0, 1), BUFFER_EXACT);
     put_stated(stated);
     replay(0);
@@ -62,7 +63,8 @@ static void put_refused_calls(struct bytes stated)
     put_command(stated, COMMAND_VIEW, 0, 11);
     put_stated(stated);
     save_lent(NAME_NULL, SHEET_0, BUFFER_EMPTY);
-    put_listed(stated, COMMAND_RENAME, bytes_of(0, NAME_NULL), BUFFER_EMPTY);
+    put_stated(stated);
+    rename_lent(0, NAME_NULL, BUFFER_EMPTY);
     put_listed(stated, COMMAND_PROTECT, bytes_of(NAME_NULL, 1), BUFFER_EMPTY);
     put_listed(stated, COMMAND_DELETE, bytes_of(NAME_NULL, -1), BUFFER_EMPTY);
     put_stated(stated);

@@ -213,17 +213,6 @@ static void seed_replays(void)
     end("replay-joined");
 }
 
-/* A list of one write: sector 1 is numbered 0 here. */
-static void put_write(int track, int sector, int fill)
-{
-    put(WRITE_ON_DISC, track, sector, fill, -1);
-}
-
-static void put_built(int groups)
-{
-    put(COMMAND_REPLAY, WRITES_BUILT, groups, -1);
-}
-
 /* Replay looks at no disc: each of these breaks it or mends it. */
 static void seed_mends(void)
 {

@@ -3,23 +3,19 @@
 
 use super::Cuts;
 use crate::planted_repair::planted;
+use crate::runs::fails;
 use crate::writing::Writing;
 
 const SEED: u64 = 650_065;
 /// About as many as the short run of the driver has.
 const CUTS: u64 = 40_000;
 
-fn failures(writing: Writing) -> u64 {
-    let mut cuts = Cuts {
+fn is_seen(writing: Writing) -> bool {
+    let cuts = Cuts {
         writing,
         ..Cuts::new(SEED)
     };
-    let mut number = 0;
-    while cuts.cuts < CUTS && cuts.failed == 0 {
-        cuts.run(number);
-        number += 1;
-    }
-    cuts.failed
+    fails(cuts, CUTS)
 }
 
 #[test]
@@ -38,7 +34,7 @@ fn every_fault_that_a_pulled_card_shows_is_seen() {
         LastTrackLeft, TrackZeroLeft, LastSectorLeft, MovedAsPlain, MovedOrder, NineAsTen,
         PlacesOf16Bits, UpTo79Tracks, NothingDone,
     );
-    let unseen = faults.into_iter().filter(|(_, writing)| failures(*writing) == 0);
+    let unseen = faults.into_iter().filter(|(_, writing)| !is_seen(*writing));
     let unseen: Vec<&str> = unseen.map(|(name, _)| name).collect();
     assert_eq!(unseen, Vec::<&str>::new());
 }

@@ -4,6 +4,7 @@
 use super::Driver;
 use crate::calls::{BAD_LIST, SHORT, SIZE};
 use crate::kind::{Kind, Numbers};
+use crate::runs::Runs;
 use crate::writing::{Writing, LONGEST_LIST, OF_LIBRARY, RECORD};
 use reference::command::Command;
 use reference::Filled;

@@ -3,6 +3,7 @@
 use super::{rule_name, Tally, LAST_RULE};
 use crate::calls::Call;
 use crate::kind::{Kind, Stated};
+use crate::marks::Tallied;
 use crate::met::Size;
 use std::collections::BTreeMap;
 use std::fmt::{Formatter, Result};
@@ -87,7 +88,8 @@ impl Tally {
         )?;
         writeln!(out, "moments of demand 3 checked: {}", self.moments)?;
         self.lists.write(out)?;
-        self.repairs.write(out)
+        self.repairs.write(out)?;
+        self.laws.write(out)
     }
 }
 

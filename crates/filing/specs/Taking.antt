@@ -10,11 +10,11 @@ use native.Mathlib.Numerals.{add-one}
 use mathlib.Core.Bool.{Bool, cond}
 use mathlib.Core.List.{List, [], _∷_, _++_}
 use lib.Dec.{ltb}
-use lib.ListN.{length, getD, set, take, drop, take-append-drop, drop-of-length-le}
+use lib.ListN.{length, getD, set, take, drop, drop-of-length-le}
 use lib.Seq.{drop-cons, getD-take, take-take, take-all, length-take-le}
 use borrow.Author.Tests.{lt-ltb, le-ltb}
 use Rattle.format.specs.Lists.{times, lastOr}
-use Rattle.format.specs.ListLaws.{times-join, times-here, times-past}
+use Rattle.format.specs.ListLaws.{times-split, times-here, times-past}
 use Rattle.format.specs.Geometry.{Geometry, Next, stop, go, off, Disc, sector, written}
 use Rattle.format.specs.GeometryLaws.{sector-other}
 use Rattle.format.specs.Layout.{linkOf, linkBytes, met, freePointer, free}
@@ -22,10 +22,6 @@ use Rattle.format.specs.Effects.{headOf, chained}
 use Rattle.soundness.specs.WriteFacts.{Savable}
 
 -- ---- parts of lists
-
--- what is taken and what is left are all
-pub times-split : (n k : ℕ) (xs : List ℕ) → times n (take k xs) + times n (drop k xs) ≡ times n xs
-times-split n k xs = sym (times-join n (take k xs) (drop k xs)) ∙ ap (times n) (take-append-drop k xs)
 
 pub last-taken : (z : ℕ) (xs : List ℕ) (j : ℕ) → j < length xs → lastOr z (take (suc j) xs) ≡ getD xs j 0
 last-taken z [] j h = absurd (omega arith)

@@ -11,7 +11,7 @@ use mathlib.Core.List.{List, [], _∷_, _++_, map}
 use lib.ListN.{length, getD, set, take, drop, replicate}
 use lib.Seq.{set-comm, drop-cons, take-take, length-take-le}
 use Rattle.format.specs.Lists.{byte, times, lastOr}
-use Rattle.format.specs.ListLaws.{map-join, zero-or, times-none, times-join, times-here, times-past}
+use Rattle.format.specs.ListLaws.{map-join, zero-or, times-none, times-join, times-split, times-here, times-past}
 use Rattle.format.specs.Geometry.{Geometry, Next, go, Disc, sector, Write, written}
 use Rattle.format.specs.GeometryLaws.{sector-other, written-other}
 use Rattle.format.specs.Layout.{linkPlace, inUsePlace, freeCount, usedCount, Slot, linkOf, linkBytes, directory, free, openSlot}
@@ -25,7 +25,7 @@ use Rattle.disc.specs.Meaning.{storedAt}
 use Rattle.system.specs.Laws.{system-from}
 use Rattle.soundness.specs.ListedWrites.{fileTaken, allTaken}
 use Rattle.filing.specs.Meaning.{withModule, nextFree}
-use Rattle.filing.specs.Taking.{times-split, last-taken, free-next}
+use Rattle.filing.specs.Taking.{last-taken, free-next}
 
 -- ---- a sector that is written last
 

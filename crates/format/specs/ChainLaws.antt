@@ -1,8 +1,8 @@
--- Laws of chains: the cases of `met` and `ends`, chains as a relation, what keeps a chain, and how two are joined.
+-- Laws of chains: the cases of `met` and `ends`, chains as a relation, what keeps a chain, how two are joined, and what two of the same sectors share.
 -- Assumes nothing.
 use mathlib.Core.Path.{_≡_, refl, sym, ap, _∙_, subst}
 use mathlib.Core.Logic.{_≢_}
-use Prim.Native.Nat.{ℕ, zero, suc, _-_, _≤_, _<_}
+use Prim.Native.Nat.{ℕ, zero, suc, _+_, _-_, _≤_, _<_}
 use native.Mathlib.Omega.{arith}
 use native.Mathlib.Decide.{ℕ-discrete}
 use native.Mathlib.Nat.{not-suc-le-zero}
@@ -10,11 +10,11 @@ use native.Mathlib.Numerals.{sub-one}
 use mathlib.Core.Bool.{true, false, false≢true}
 use mathlib.Core.List.{List, [], _∷_, _++_}
 use lib.ListN.{length}
-use Rattle.format.specs.Lists.{times, lastOr}
-use Rattle.format.specs.ListLaws.{All, done, _also_, times-here, times-past, last-in}
+use Rattle.format.specs.Lists.{times, lastOr, byte}
+use Rattle.format.specs.ListLaws.{All, done, _also_, times-none, times-here, times-past, last-in}
 use Rattle.format.specs.Geometry.{Geometry, sectors, Next, stop, go, off, Disc, sector}
-use Rattle.format.specs.GeometryLaws.{OnDisc, pointed-on}
-use Rattle.format.specs.Layout.{linkOf, met, ends}
+use Rattle.format.specs.GeometryLaws.{OnDisc, pointed-on, pointed-only, pointed-none}
+use Rattle.format.specs.Layout.{linkPlace, linkOf, met, ends}
 
 module _ (G : Geometry) (d : Disc) where
   -- ---- the cases of a walk
@@ -102,6 +102,12 @@ module _ (G : Geometry) (d : Disc) where
   chain-ends (suc k) (end e) h = ap (ends G d (suc k)) e
   chain-ends (suc k) (on e c) h = ap (ends G d (suc k)) e ∙ chain-ends k c (omega arith)
 
+-- its last sector has the end link
+pub chain-stops : {G : Geometry} {d : Disc} {p : Next} {ns : List ℕ} → Chain G d p ns → 0 < length ns → linkOf G (sector d (lastOr 0 ns)) ≡ stop
+chain-stops (end e) h = absurd (omega arith)
+chain-stops (on e (end q)) h = q
+chain-stops (on e (on q c)) h = chain-stops (on q c) (omega arith)
+
 -- ---- what keeps a chain: its sectors' links
 
 abbrev pub SameLink : Geometry → Disc → Disc → ℕ → Type 0
@@ -125,3 +131,20 @@ module _ {G : Geometry} {d : Disc} (d′ : Disc) where
       (chain-join (on e′ c′) (omega arith)
       (λ k i j. same k (elim (ℕ-discrete k n) [ yes w ↦ omega (arith, times-here k n (m ∷ ns) w) | no w ↦ omega (arith, times-past k n (m ∷ ns) w) ]) j)
       (omega (arith, times-past last n (m ∷ ns) (λ w. apart (sym w)))) l c))
+
+-- ---- the same sectors chained on two discs: their links have the same bytes, but for the track byte of the last
+
+pub chains-alike : {G : Geometry} {d d′ : Disc} {p p′ : Next} {ns : List ℕ} → 0 < G .perTrack → Chain G d p ns → Chain G d′ p′ ns → (n : ℕ) → 0 < times n ns
+    → (byte (sector d′ n) (linkPlace + 1) ≡ byte (sector d n) (linkPlace + 1)) × (n ≢ lastOr 0 ns → byte (sector d′ n) linkPlace ≡ byte (sector d n) linkPlace)
+chains-alike h (end e) (end e′) n i = absurd (omega (arith, times-none n))
+chains-alike {G} {d} {d′} h (on {n = m} e (end q)) (on e′ (end q′)) n i =
+    let n-is : n ≡ m = elim (ℕ-discrete n m) [ yes w ↦ w | no w ↦ absurd (omega (arith, times-past n m [] w, times-none n)) ] in
+    rw n-is (pointed-none G _ _ q′ ∙ sym (pointed-none G _ _ q), λ ne. absurd (ne refl))
+chains-alike {G} h (on {n = m} e (on {n = k} {ns = ns} q c)) (on e′ (on q′ c′)) n i =
+    elim (ℕ-discrete n m) [
+      | yes w ↦
+          let was = pointed-only G h _ _ k q in
+          let now = pointed-only G h _ _ k q′ in
+          rw w (now .1 ∙ sym (was .1), λ ne. now .0 ∙ sym (was .0))
+      | no w ↦ chains-alike h (on q c) (on q′ c′) n (omega (arith, times-past n m (k ∷ ns) w))
+    ]

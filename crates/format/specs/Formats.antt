@@ -12,7 +12,7 @@ use lib.ListN.{length, getD, take, drop, take-append-drop}
 use lib.Dec.{eqb}
 use borrow.Author.Tests.{ne-eqb}
 use Rattle.format.specs.Lists.{Once}
-use Rattle.format.specs.ListLaws.{All, head-of, tail-of, all-getD, once-length, once-inside}
+use Rattle.format.specs.ListLaws.{and-false, All, head-of, tail-of, all-getD, once-length, once-inside}
 use Rattle.format.specs.Refusals.{ok}
 use Rattle.format.specs.RefusalLaws.{refused-ok}
 use Rattle.format.specs.Geometry.{Format, ten, tenMoved, nine, unknown, stated, Geometry, tracked, geometry}
@@ -70,10 +70,6 @@ right-length {F} f T low high =
     geometry-done F n (omega (arith, div-add-mod n track)) (omega (arith, tracks)) (omega (arith, tracks)) ∙ ap (λ (t : ℕ). ok (tracked F t)) tracks
 
 -- ---- what may not be stated
-
-and-false : (b : Bool) → b && false ≡ false
-and-false true = refl
-and-false false = refl
 
 pub other-arrangement : (k a : ℕ) → 1 < a → stated k a ≡ unknown
 unfolding stated

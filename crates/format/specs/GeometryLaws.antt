@@ -143,6 +143,29 @@ module _ (G : Geometry) (some-sector : 0 < G .perTrack) where
   pub pointed-back : (n : ℕ) → n < sectors G → pointed G (trackOf G n) (sectorOf G n) ≡ go n
   pointed-back n h = pointed-go G _ _ (omega arith) (sector-range n) (track-range n h) ∙ ap go (number-back n)
 
+  -- and no others do
+  pub pointed-only : (t s n : ℕ) → pointed G t s ≡ go n → (t ≡ trackOf G n) × (s ≡ sectorOf G n)
+  unfolding pointed
+  pointed-only t s n e = by (eqb s 0) (onDisc G t s) refl e
+    where
+      by : (a b : Bool) → onDisc G t s ≡ b → cond a stop (cond b (go (sectorNumber G t s)) off) ≡ go n → (t ≡ trackOf G n) × (s ≡ sectorOf G n)
+      by true b o e = let z : _≡_ {A = ℕ} 0 1 = cc in absurd (omega arith)
+      by false false o e = let z : _≡_ {A = ℕ} 0 1 = cc in absurd (omega arith)
+      by false true o e =
+          let n-is : sectorNumber G t s ≡ n = cc in
+          let h = on-disc-is G t s o in
+          (sym (track-back t s (h .1) (h .2)) ∙ ap (trackOf G) n-is, sym (sector-back t s (h .1) (h .2)) ∙ ap (sectorOf G) n-is)
+
+-- what leads nowhere has the sector byte zero
+pub pointed-none : (G : Geometry) (t s : ℕ) → pointed G t s ≡ stop → s ≡ 0
+unfolding pointed
+pointed-none G t s e = by (eqb s 0) (onDisc G t s) refl e
+  where
+    by : (a b : Bool) → eqb s 0 ≡ a → cond a stop (cond b (go (sectorNumber G t s)) off) ≡ stop → s ≡ 0
+    by true b q e = eqb-true s 0 q
+    by false true q e = let z : _≡_ {A = ℕ} 0 1 = cc in absurd (omega arith)
+    by false false q e = let z : _≡_ {A = ℕ} 0 1 = cc in absurd (omega arith)
+
 -- ---- sectors and their places in an image
 
 some-on-track : (G : Geometry) (n : ℕ) → n < sectors G → 0 < G .perTrack
@@ -370,6 +393,13 @@ module _ (F : Format) (G : Geometry) (a : Arranged F G) where
   pub byte-cut : (image : List ℕ) (n k : ℕ) → n < sectors G → k < 256 → getD (sector (cut F G image) n) k 0 ≡ getD image (startOf F G n + k) 0
   byte-cut image n k hn hk =
       ap (λ (s : List ℕ). getD s k 0) (sector-cut image n hn) ∙ getD-take 256 (drop (startOf F G n) image) k 0 hk ∙ getD-drop (startOf F G n) image k 0
+
+  -- the sector of any byte of an image
+  pub byte-at : (image : List ℕ) (i : ℕ) → i < 256 * sectors G → getD (sector (cut F G image) (sectorAt F G (i / 256))) (i % 256) 0 ≡ getD image i 0
+  byte-at image i h =
+      let on : i / 256 < sectors G = omega arith in
+      let here : startOf F G (sectorAt F G (i / 256)) + i % 256 ≡ i = ap (λ (p : ℕ). 256 * p + i % 256) (sector-at-back F G a (i / 256) on) ∙ omega arith in
+      byte-cut image (sectorAt F G (i / 256)) (i % 256) (sector-at-below F G a (i / 256) on) (omega arith) ∙ ap (λ (j : ℕ). getD image j 0) here
 
 chunks-set : (N : ℕ) (image : List ℕ) (n k v : ℕ) → n < N → k < 256
     → chunks N (set image (256 * n + k) v) ≡ set (chunks N image) n (set (getD (chunks N image) n []) k v)

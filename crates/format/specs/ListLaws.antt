@@ -8,7 +8,7 @@ use native.Mathlib.Decide.{ℕ-discrete}
 use mathlib.Core.Bool.{Bool, true, false, not, _&&_, true≢false, false≢true}
 use mathlib.Core.Option.{none, some}
 use mathlib.Core.List.{List, [], _∷_, _++_, map, head?, append-assoc}
-use lib.ListN.{length, getD, set, take, drop, replicate, length-append, length-replicate}
+use lib.ListN.{length, getD, set, take, drop, replicate, length-append, length-replicate, take-append-drop}
 use lib.Seq.{take-nil}
 use lib.Dec.{eqb}
 use borrow.Author.Tests.{eq-eqb, ne-eqb, eqb-true}
@@ -22,6 +22,10 @@ and-true false b e = absurd (false≢true e)
 
 pub true-and : {a b : Bool} → a ≡ true → b ≡ true → a && b ≡ true
 true-and {b = b} p q = ap (λ (x : Bool). x && b) p ∙ q
+
+pub and-false : (b : Bool) → b && false ≡ false
+and-false true = refl
+and-false false = refl
 
 pub not-true : (a : Bool) → not a ≡ true → a ≡ false
 not-true true e = absurd (false≢true e)
@@ -119,6 +123,11 @@ module _ {A : Type 0} where
   head-none [] e = refl
   head-none (x ∷ xs) e = cc
 
+  -- a list without elements is the empty one
+  pub none-long : (xs : List A) → length xs ≡ 0 → xs ≡ []
+  none-long [] e = refl
+  none-long (x ∷ xs) e = absurd (omega arith)
+
 -- ---- how often
 
 pub times-none : (n : ℕ) → times n [] ≡ 0
@@ -128,6 +137,10 @@ times-none n = refl
 pub times-join : (n : ℕ) (xs ys : List ℕ) → times n (xs ++ ys) ≡ times n xs + times n ys
 unfolding times
 times-join n xs ys = ap length (filter-join (eqb n) xs ys) ∙ length-append (filter (eqb n) xs) (filter (eqb n) ys)
+
+-- what is taken and what is left are all
+pub times-split : (n k : ℕ) (xs : List ℕ) → times n (take k xs) + times n (drop k xs) ≡ times n xs
+times-split n k xs = sym (times-join n (take k xs) (drop k xs)) ∙ ap (times n) (take-append-drop k xs)
 
 pub times-here : (n m : ℕ) (xs : List ℕ) → n ≡ m → times n (m ∷ xs) ≡ suc (times n xs)
 unfolding times

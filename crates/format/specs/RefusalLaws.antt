@@ -10,6 +10,9 @@ use Rattle.format.specs.Refusals.{Try, Refusal, SIZE, NAME, UNSOUND, ABS
 
 -- ---- accepted
 
+pub some-is : {A : Type 0} {x y : A} → _≡_ {A = Option A} (some x) (some y) → x ≡ y
+some-is e = cc
+
 module _ {E A : Type 0} where
   pub refused-ok : {e : E} {x : A} → refused e ≡ ok x → ⊥
   refused-ok p = let z : _≡_ {A = ℕ} 0 1 = cc in omega arith

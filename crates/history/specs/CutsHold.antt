@@ -9,7 +9,7 @@ use lib.ListN.{length, take}
 use Rattle.format.specs.Lists.{same, consIf, filter}
 use Rattle.format.specs.ListLaws.{filter-yes, filter-no, same-true}
 use Rattle.format.specs.Refusals.{ok, _>>=_, _orRefuse_, number}
-use Rattle.format.specs.RefusalLaws.{refused-ok}
+use Rattle.format.specs.RefusalLaws.{refused-ok, some-is}
 use Rattle.format.specs.Geometry.{Format, unknown, stated, Geometry, geometry, Disc, cut, flat, Write, written}
 use Rattle.format.specs.Arrangements.{Arranged}
 use Rattle.format.specs.Formats.{GoodFormat, stated-cases}
@@ -90,12 +90,9 @@ unnamed-stay b (delete name) buffer nine e = delete-unnamed (nineOf name) nine e
 unnamed-stay b (rename old new) buffer nine e = let h = or-false _ _ e in rename-unnamed (nineOf old) nine (h .0) (nineOf new) (h .1) (b .files)
 unnamed-stay b (protect name on) buffer nine e = refl
 
-some-is : {x y : List ℕ} → _≡_ {A = Option (List ℕ)} (some x) (some y) → x ≡ y
-some-is e = cc
-
 -- ---- what is read by two states whose books have the same files of a name
 
-same-readOn : {G : Geometry} {start start′ d d′ : Disc} {b b′ : Book} → State G start d b → State G start′ d′ b′ → (typed : List ℕ) (room : ℕ)
+pub same-readOn : {G : Geometry} {start start′ d d′ : Disc} {b b′ : Book} → State G start d b → State G start′ d′ b′ → (typed : List ℕ) (room : ℕ)
     → ((nine : List ℕ) → stored typed ≡ some nine → filter (named nine) (b′ .files) ≡ filter (named nine) (b .files))
     → readOn G d′ typed room ≡ readOn G d typed room
 unfolding readOn _orRefuse_ _>>=_
@@ -105,14 +102,14 @@ same-readOn {G} {d = d} {d′ = d′} st st′ typed room h = case (stored typed
     case none e = rw e
     case (some nine) e = read-on st′ typed nine room e ∙ ap (λ (fs : List File). gives (head? fs) room) (h nine e) ∙ sym (read-on st typed nine room e)
 
-read-same : (F : Format) (G : Geometry) (image image′ typed buffer : List ℕ) → geometry F (length image) ≡ ok G → geometry F (length image′) ≡ ok G
+pub read-same : (F : Format) (G : Geometry) (image image′ typed buffer : List ℕ) → geometry F (length image) ≡ ok G → geometry F (length image′) ≡ ok G
     → readOn G (cut F G image′) typed (length buffer) ≡ readOn G (cut F G image) typed (length buffer)
     → afterRead F image′ typed buffer ≡ afterRead F image typed buffer
 unfolding afterRead asked _>>=_
 read-same F G image image′ typed buffer g g′ e = rw (g, g′) (ap (readAnswerBy buffer) e)
 
 -- the files of a disc that has the entries and the files of another
-book-stays : {G : Geometry} {d d′ : Disc} {dir : List ℕ} → Filed G d dir → Filed G d′ dir → filesOf G d′ dir ≡ filesOf G d dir
+pub book-stays : {G : Geometry} {d d′ : Disc} {dir : List ℕ} → Filed G d dir → Filed G d′ dir → filesOf G d′ dir ≡ filesOf G d dir
     → openingBook G d′ ≡ openingBook G d
 unfolding openingBook
 book-stays {G} {d} {d′} f f′ e =

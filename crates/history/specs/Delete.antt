@@ -37,6 +37,10 @@ pub record DeleteLeaves (G : Geometry) (d d′ : Disc) (dir frees : List ℕ) (s
   pub post : List File
   pub was : filesOf G d dir ≡ pre ++ fileOf G d s ∷ post
   pub now : filesOf G d′ dir ≡ pre ++ post
+  -- the sectors: the directory's, 0/1, and those that stay
+  pub at-home : sector d′ (s .home) ≡ withSlot (sector d (s .home)) (s .index) (byte (sector d (s .home)) inUsePlace - 1) emptySlot
+  pub at-system : sector d′ 0 ≡ systemWrite G d (firstOf G s) (freeCount d + lengthOf s) (usedCount d - lengthOf s) .bytes
+  pub at-other : (n : ℕ) → n ≢ s .home → n ≢ 0 → times n (fileChain G d s) ≡ 0 → sector d′ n ≡ sector d n
 
 module _ {G : Geometry} {d : Disc} {dir frees nine : List ℕ} (u : Bounded G) (l : Laid G d dir frees) (z : Full G d) (s : Slot) (f : Found G d dir nine s) where
   file : List ℕ
@@ -265,7 +269,7 @@ module _ {G : Geometry} {d : Disc} {dir frees nine : List ℕ} (u : Bounded G) (
       (λ e. omega (arith, one n .low (omega (arith, met-now n)))))
 
   pub delete-leaves : DeleteLeaves G d (written (deleteWrites G d s) d) dir frees s
-  unfolding file
+  unfolding file home sys′
   delete-leaves =
       rw deleted-is (record {
         laid = laid′;
@@ -274,4 +278,7 @@ module _ {G : Geometry} {d : Disc} {dir frees nine : List ℕ} (u : Bounded G) (
         post = map (fileOf G d) post;
         was = ap (map (fileOf G d)) before ∙ map-join (fileOf G d) pre (s ∷ post);
         now = ap (map (fileOf G d′)) after ∙ others ∙ map-join (fileOf G d) pre post;
+        at-home = at-home;
+        at-system = at-zero;
+        at-other = λ n h k j. at-other n h (λ e. omega (arith, last-met, ap (λ (m : ℕ). times m file) e)) k;
       })

@@ -3,6 +3,7 @@ pub mod Demand3
 pub mod Replays
 pub mod Cuts
 pub mod Events
+pub mod Cancels
 pub mod OnlyOne
 pub mod BookFiles
 pub mod RenameProtect
@@ -31,4 +32,8 @@ pub mod DemandSays
 pub mod Corollaries
 pub mod Moved
 pub mod ReplaysHold
+pub mod Twice
+pub mod SaveCancels
+pub mod RenamesJoined
+pub mod CancelSays
 pub mod Rows

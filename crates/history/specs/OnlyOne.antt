@@ -8,7 +8,7 @@ use mathlib.Core.Option.{some}
 use mathlib.Core.List.{List, [], _∷_, map, _++_, head?}
 use lib.ListN.{length, length-append, getElem?}
 use Rattle.format.specs.Lists.{any, consIf, filter}
-use Rattle.format.specs.ListLaws.{All, done, _also_, all-map, map-join, filter-join, filter-yes, filter-no}
+use Rattle.format.specs.ListLaws.{All, done, _also_, all-map, map-join, filter-join, filter-yes, filter-no, none-long}
 use Rattle.format.specs.Effects.{isSome}
 use Rattle.soundness.specs.Places.{Place}
 
@@ -47,11 +47,7 @@ module _ {A : Type 0} (p : A → Bool) where
   one-at (y ∷ ys) zero x e q h =
       let is : y ≡ x = cc in
       let first : filter p (y ∷ ys) ≡ y ∷ filter p ys = filter-yes p y ys (ap p is ∙ q) in
-      first ∙ ap₂ (λ (a : A) (r : List A). a ∷ r) is (none (filter p ys) (omega (arith, ap length first)))
-    where
-      none : (zs : List A) → length zs ≡ 0 → zs ≡ []
-      none [] k = refl
-      none (z ∷ zs) k = absurd (omega arith)
+      first ∙ ap₂ (λ (a : A) (r : List A). a ∷ r) is (none-long (filter p ys) (omega (arith, ap length first)))
   one-at (y ∷ ys) (suc i) x e q h = by (p y) refl (λ k. one-at ys i x e q k)
     where
       by : (b : Bool) → p y ≡ b → (length (filter p ys) ≤ 1 → filter p ys ≡ x ∷ []) → filter p (y ∷ ys) ≡ x ∷ []

@@ -38,6 +38,10 @@ pub record EntryChanged (G : Geometry) (d d′ : Disc) (dir frees : List ℕ) (s
   pub laid : Laid G d′ dir frees
   pub full : Full G d′
   pub place : Place (filesOf G d dir) (filesOf G d′ dir) (fileOf G d s) (record { name = nine; count = lengthOf s; reading = reading G d s })
+  -- the entry, now with these bytes
+  pub bytes : List ℕ
+  pub entries : Place (entriesOf d dir) (entriesOf d′ dir) s (withBytes s bytes)
+  pub name : nameOf (withBytes s bytes) ≡ nine
 
 module _ {G : Geometry} {d : Disc} {dir frees nine : List ℕ} (l : Laid G d dir frees) (z : Full G d) (s : Slot) (f : Found G d dir nine s) where
   -- ---- any bytes that keep what a chain needs
@@ -137,6 +141,9 @@ module _ {G : Geometry} {d : Disc} {dir frees nine : List ℕ} (l : Laid G d dir
         record {
           laid = laid′;
           full = full-set z (s .home) _ (length-sets (sector d (s .home)) (slotStart (s .index) + k) xs ∙ sector-full z (s .home) (home-high (l .filed) s (f .slot-of)));
+          bytes = sets (s .bytes) k xs;
+          entries = entries-place;
+          name = refl;
           place = filesOf-place d′ dir (l .filed .good-chains) entries-place (λ n h. other n (λ e. omega (arith, home-apart (l .filed) s (f .slot-of), ap (λ (m : ℕ). times m (chainsOf G d (entriesOf d dir))) e))) first′ last′ long′;
         }
 

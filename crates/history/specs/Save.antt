@@ -121,21 +121,33 @@ module _ {G : Geometry} {d : Disc} {dir frees : List ℕ} (u : Bounded G) (l : L
         now = r .3 ∙ ap (λ (c : ℕ). r .0 ++ record { name = nine; count = c; reading = plain (bodies m) } ∷ r .1) size;
       }
 
-  pub open-leaves : (s : Slot) → openSlot G d ≡ some s → sectorsFor (length (m .bytes)) ≤ length frees → SaveLeaves G d (written (saveWrites G d nine m) d) dir nine m 0
+  -- a save into a free slot: what it takes and leaves of the free sectors, and the disc afterwards
+  pub open-saving : sectorsFor (length (m .bytes)) ≤ length frees
+      → Saving G d dir frees nine (take (sectorsFor (length (m .bytes))) frees) [] (drop (sectorsFor (length (m .bytes))) frees) (bodies m)
+  unfolding k
+  open-saving room =
+      saving (take k frees) [] (drop k frees)
+      (sym (ap (λ (r : List ℕ). r ++ drop k frees) (append-nil (take k frees)) ∙ take-append-drop k frees)) (length-take-le k frees room)
+
+  pub open-is : (s : Slot) → openSlot G d ≡ some s → sectorsFor (length (m .bytes)) ≤ length frees
+      → written (saveWrites G d nine m) d ≡ savedOpen G d nine (take (sectorsFor (length (m .bytes))) frees) (bodies m) s
   unfolding k grows
-  open-leaves s o room =
+  open-is s o room =
       let file : List ℕ = take k frees in
-      let rest : List ℕ = drop k frees in
-      let size : length file ≡ k = length-take-le k frees room in
       let taken : take (k + 0) frees ≡ file ++ [] = ap (λ (j : ℕ). take j frees) (add-zero k) ∙ sym (append-nil file) in
       let first : take k (take (k + 0) frees) ≡ file = ap (λ (j : ℕ). take k (take j frees)) (add-zero k) ∙ take-take k k frees (omega arith) in
-      let split : frees ≡ (file ++ []) ++ rest = sym (ap (λ (r : List ℕ). r ++ rest) (append-nil file) ∙ take-append-drop k frees) in
-      let v = saving file [] rest split size in
+      ap (λ (ws : List Write). written ws d)
+      (save-writes G d nine m (some s) frees o (free-is l) ∙ same-writes G d nine (bodies m) (sym (length-take-le k frees room)) taken first (some s))
+      ∙ open-written G d nine (bodies m) file s
+
+  pub open-leaves : (s : Slot) → openSlot G d ≡ some s → sectorsFor (length (m .bytes)) ≤ length frees
+      → SaveLeaves G d (written (saveWrites G d nine m) d) dir nine m 0
+  unfolding k
+  open-leaves s o room =
+      let v = open-saving room in
       let slot-of = open-lies (l .filed) o in
-      let is : written (saveWrites G d nine m) d ≡ savedOpen G d nine file (bodies m) s =
-      ap (λ (ws : List Write). written ws d) (save-writes G d nine m (some s) frees o (free-is l) ∙ same-writes G d nine (bodies m) (sym size) taken first (some s))
-      ∙ open-written G d nine (bodies m) file s in
-      subst (λ (x : Disc). SaveLeaves G d x dir nine m 0) (sym is) (leaves 0 v size (omega arith) (open-facts v s (slot-of .0) (slot-of .1)))
+      subst (λ (x : Disc). SaveLeaves G d x dir nine m 0) (sym (open-is s o room))
+      (leaves 0 v (length-take-le k frees room) (omega arith) (open-facts v s (slot-of .0) (slot-of .1)))
 
   pub grown-leaves : openSlot G d ≡ none → sectorsFor (length (m .bytes)) + 1 ≤ length frees → SaveLeaves G d (written (saveWrites G d nine m) d) dir nine m 1
   unfolding k grows

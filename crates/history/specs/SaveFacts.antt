@@ -64,7 +64,7 @@ module _ {G : Geometry} {d d′ : Disc} {dir frees dir′ nine file extra rest :
       rw (entry-first G (v .bounded) nine file (v .nine-long) (file-few v) (head-pointable (file-below v)))
       (chain-frame d′ (withFile-chain v .0) (at-all file (λ n h. ap (linkOf G) (c .at-file n h))))
 
-  new-chain : fileChain G d′ (newSlot G nine file home index) ≡ file
+  pub new-chain : fileChain G d′ (newSlot G nine file home index) ≡ file
   unfolding fileChain
   new-chain = chain-met G d′ (sectors G) new-walk (omega (arith, free-length v, laid-sum (v .laid)))
 

@@ -144,3 +144,13 @@ module _ {G : Geometry} {d : Disc} {dir frees nine file rest : List ℕ} {bs : L
         stays = λ n k. at-other n (λ w. omega (arith, one n .one, taken-times n, o .in-directory, ap (λ (j : ℕ). times j dir) w)) (λ w. omega (arith, one n .low (omega (arith, taken-times n)))) (omega (arith, one n .one, taken-times n));
         moved = λ n. omega (arith, taken-times n);
       }
+
+  -- the directory's sector, and those that stay
+  pub open-home : sector (savedOpen G d nine file bs s) (s .home)
+      ≡ withSlot (sector d (s .home)) (s .index) (byte (sector d (s .home)) inUsePlace + 1) (entryBytes G nine file)
+  unfolding d₃ d₂ sec1 e
+  open-home = at-home
+
+  pub open-other : (n : ℕ) → n ≢ s .home → n ≢ 0 → times n file ≡ 0 → sector (savedOpen G d nine file bs s) n ≡ sector d n
+  unfolding d₃ d₂ sec1
+  open-other = at-other

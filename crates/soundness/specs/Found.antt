@@ -1,21 +1,21 @@
 -- What is known of the entry that `find` finds, of a name that it doesn't find, and of the slot that `openSlot` gives.
 -- Assumes nothing.
-use mathlib.Core.Path.{_≡_, sym, ap, _∙_}
+use mathlib.Core.Path.{_≡_, sym, ap, ap₂, _∙_}
 use mathlib.Core.Logic.{_≢_}
 use Prim.Native.Nat.{ℕ, _*_, _≤_, _<_}
 use native.Mathlib.Omega.{arith}
 use mathlib.Core.Bool.{true}
 use mathlib.Core.Option.{none, some}
-use mathlib.Core.List.{List, [], _∷_, map, head?}
+use mathlib.Core.List.{List, [], _∷_, _++_, map, head?}
 use lib.ListN.{length, drop, length-drop}
 use lib.Seq.{length-take-le}
 use Rattle.format.specs.Lists.{same, filter, sum, times, lastOr}
-use Rattle.format.specs.ListLaws.{all-filter, filter-all, head-all, head-none, all-at, same-true}
+use Rattle.format.specs.ListLaws.{all-filter, filter-all, filter-join, filter-yes, head-all, head-none, none-long, all-at, same-true}
 use Rattle.format.specs.Geometry.{Geometry, sectors, Disc, sector}
 use Rattle.format.specs.GeometryLaws.{Full, sector-full}
 use Rattle.format.specs.Layout.{slotsEach, slotStart, Slot, freeSlot, nameOf, lengthOf, slotAt, slotsOf, slots, openSlot, find, fileChain}
 use Rattle.soundness.specs.Counts.{last-of, OneOf}
-use Rattle.soundness.specs.NameCounts.{ofName, called}
+use Rattle.soundness.specs.NameCounts.{true-same, ofName, called, called-at, called-here}
 use Rattle.soundness.specs.Slots.{isUsed, inUse-all, inUse-used, inUse-many, SlotOf, slots-of, slots-many, slotBytes}
 use Rattle.soundness.specs.Filed.{GoodEntry, GoodChain, entriesOf, chainsOf, Counted, Filed, filed-one, directory-is, entries-are}
 use Rattle.soundness.specs.Frames.{all-within, all-shorter}
@@ -81,6 +81,21 @@ module _ {G : Geometry} {d : Disc} {dir : List ℕ} (f : Filed G d dir) where
   pub not-found : (nine : List ℕ) → find G d nine ≡ none → called nine (entriesOf d dir) ≡ 0
   unfolding called
   not-found nine e = ap length (head-none (ofName nine (entriesOf d dir)) (sym (find-is nine) ∙ e))
+
+  -- an entry is the one of its name
+  pub find-at : (pre post : List Slot) (t : Slot) (nine : List ℕ) → entriesOf d dir ≡ pre ++ t ∷ post → nameOf t ≡ nine → find G d nine ≡ some t
+  unfolding called
+  find-at pre post t nine e name =
+      let none-before : called nine pre ≡ 0 =
+      omega (arith, f .names-differ nine, ap (called nine) e, called-at nine pre post t, called-here nine t [] name) in
+      find-is nine ∙ ap (λ (ss : List Slot). head? (ofName nine ss)) e
+      ∙ ap head? (filter-join (λ (s : Slot). same (nameOf s) nine) pre (t ∷ post)
+      ∙ ap₂ (λ (a b : List Slot). a ++ b) (none-long (ofName nine pre) none-before) (filter-yes (λ (s : Slot). same (nameOf s) nine) t post (true-same name)))
+
+  -- no entry of a name
+  pub find-none : (nine : List ℕ) → called nine (entriesOf d dir) ≡ 0 → find G d nine ≡ none
+  unfolding called
+  find-none nine e = find-is nine ∙ ap head? (none-long (ofName nine (entriesOf d dir)) e)
 
   -- ---- the first free slot
 

@@ -1,7 +1,7 @@
 -- The system sector with another free pointer and other counts: what is read from it.
 -- Assumes nothing.
 use mathlib.Core.Path.{_≡_, refl, ap, ap₂, _∙_}
-use Prim.Native.Nat.{ℕ, _+_, _*_, _≤_, _<_}
+use Prim.Native.Nat.{ℕ, zero, suc, _+_, _*_, _≤_, _<_}
 use native.Mathlib.Omega.{arith}
 use mathlib.Core.List.{List, _++_}
 use lib.ListN.{length}
@@ -50,6 +50,15 @@ module _ (G : Geometry) (u : Bounded G) (d : Disc) (full : length (system d) ≡
   pub system-used : used < 65536 → wordAt (systemWrite G d p freed used .bytes) usedCountPlace ≡ used
   unfolding sys′
   system-used h = ap₂ (λ (a b : ℕ). a + 256 * b) (at-counts 2 (omega arith)) (at-counts 3 (omega arith)) ∙ omega arith
+
+  -- the four bytes of the counts are bytes
+  pub system-small : (k : ℕ) → k < 4 → byte (systemWrite G d p freed used .bytes) (freeCountPlace + k) < 256
+  unfolding sys′
+  system-small zero h = omega (arith, at-counts 0 h)
+  system-small (suc zero) h = omega (arith, at-counts 1 h)
+  system-small (suc (suc zero)) h = omega (arith, at-counts 2 h)
+  system-small (suc (suc (suc zero))) h = omega (arith, at-counts 3 h)
+  system-small (suc (suc (suc (suc k)))) h = absurd (omega arith)
 
   pub system-length : length (systemWrite G d p freed used .bytes) ≡ 256
   unfolding sys′

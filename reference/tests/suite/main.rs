@@ -2,6 +2,9 @@
 //! from the paper, not by the code under test.
 
 mod arrangements;
+mod cancels;
+mod cancels_faults;
+mod cancels_trace;
 mod check_rules;
 mod commands;
 mod common;

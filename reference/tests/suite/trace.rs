@@ -1,7 +1,9 @@
 //! The trace program: its text is read back and every run replayed from it.
 
 use crate::common::{moved_position, position, rewritten, MOVED, NINE, PLAIN, TEN};
+use reference::cancels::cancelled;
 use reference::command::{Answer, Buffer, Command};
+use std::ops::Range;
 use std::process::Command as Process;
 
 /// What stands in front for each format.
@@ -11,7 +13,7 @@ const FORMATS: [[&str; 2]; 3] = [
     ["--sectors", "9"],
 ];
 
-fn trace(arguments: &[&str]) -> Vec<String> {
+pub fn trace(arguments: &[&str]) -> Vec<String> {
     let output = Process::new(env!("CARGO_BIN_EXE_trace"))
         .args(arguments)
         .output()
@@ -21,7 +23,7 @@ fn trace(arguments: &[&str]) -> Vec<String> {
     text.lines().map(str::to_string).collect()
 }
 
-fn bytes(hex: &str) -> Vec<u8> {
+pub fn bytes(hex: &str) -> Vec<u8> {
     if hex == "-" {
         return Vec::new();
     }
@@ -31,8 +33,14 @@ fn bytes(hex: &str) -> Vec<u8> {
         .collect()
 }
 
-fn number<T: std::str::FromStr>(field: &str) -> T {
+pub fn number<T: std::str::FromStr>(field: &str) -> T {
     field.parse().ok().expect("a decimal number")
+}
+
+/// A range of an `excepted` line.
+pub fn place(field: &str) -> Range<usize> {
+    let (first, last) = field.split_once('-').expect("FIRST-LAST");
+    number(first)..number::<usize>(last) + 1
 }
 
 fn buffer(length: &str, fill: &str) -> Buffer {
@@ -129,13 +137,15 @@ fn same(answer: &Answer, fields: &[&str]) -> bool {
 
 /// One image as the commands make it, and one as the trace says it changed.
 #[derive(Default)]
-struct Replay {
+pub struct Replay {
     sectors: u32,
     arrangement: u32,
+    /// The image that the run started with.
+    start: Vec<u8>,
     made: Vec<u8>,
     told: Vec<u8>,
-    images: usize,
-    commands: usize,
+    pub images: usize,
+    pub commands: usize,
     /// The image before the last command, the command's word, and its list.
     before: Vec<u8>,
     word: String,
@@ -153,14 +163,18 @@ impl Replay {
             ["image", sectors, arrangement, image] => {
                 self.sectors = number(sectors);
                 self.arrangement = number(arrangement);
-                self.made = bytes(image);
-                self.told = self.made.clone();
-                self.cut = false;
+                self.start = bytes(image);
+                self.restart();
                 self.images += 1;
+            }
+            ["again"] => self.restart(),
+            ["excepted", ref places @ ..] => {
+                let places: Vec<Range<usize>> = places.iter().map(|field| place(field)).collect();
+                assert_eq!(cancelled(&self.start, &self.made, &places), Ok(()));
             }
             ["cut", made, done] => self.pull(number(made), done),
             ["sector", at, sector] => {
-                let start = self.start(number(at));
+                let start = self.start_of(number(at));
                 let told = bytes(sector);
                 self.told[start..start + told.len()].copy_from_slice(&told);
             }
@@ -179,8 +193,14 @@ impl Replay {
         }
     }
 
+    fn restart(&mut self) {
+        self.made = self.start.clone();
+        self.told = self.start.clone();
+        self.cut = false;
+    }
+
     /// Where the sector of a number begins in the image.
-    fn start(&self, number: usize) -> usize {
+    fn start_of(&self, number: usize) -> usize {
         let (track, sector) = (number / 10, number % 10 + 1);
         match (self.sectors, self.arrangement) {
             (TEN, PLAIN) => position(track, sector),
@@ -233,7 +253,7 @@ impl Replay {
     }
 }
 
-fn replay(arguments: &[&str]) -> Replay {
+pub fn replay(arguments: &[&str]) -> Replay {
     let mut replay = Replay::default();
     for line in trace(arguments) {
         replay.line(&line);
@@ -373,7 +393,13 @@ fn numbers_that_are_no_format_get_plain_images() {
         (["--sectors", "9", "--arrangement", "1"], "9"),
         (["--sectors", "9", "--arrangement", "257"], "9"),
     ] {
-        for mode in [&[][..], &["damaged"], &["refused"], &["repaired"]] {
+        for mode in [
+            &[][..],
+            &["damaged"],
+            &["refused"],
+            &["repaired"],
+            &["cancels"],
+        ] {
             let rest = &[mode, &["17", "40", "11"]].concat();
             let plain = &["--sectors", of];
             let bytes = |front: &[&str]| -> Vec<String> {
@@ -384,7 +410,7 @@ fn numbers_that_are_no_format_get_plain_images() {
             };
             let (made, of_plain) = (bytes(&front), bytes(plain));
             // Accepted commands lead the seed elsewhere after the first run.
-            let drawn_alone = mode == ["damaged"] || mode == ["repaired"];
+            let drawn_alone = ![&[][..], &["refused"]].contains(&mode);
             let same = if drawn_alone { 40 } else { 1 };
             assert!(made[..same] == of_plain[..same], "{front:?} {mode:?}");
         }
@@ -417,11 +443,11 @@ fn numbers_that_are_no_format_refuse_every_call() {
     }
 }
 
-/// The lines of a trace without what the arrangement decides: the images, and
-/// where a view starts.
+/// The lines of a trace without what the arrangement decides: the images, the
+/// exceptions, and where a view starts.
 fn without_places(arguments: &[&str]) -> Vec<String> {
     let mut lines = trace(arguments);
-    lines.retain(|line| !line.starts_with("image "));
+    lines.retain(|line| !line.starts_with("image ") && !line.starts_with("excepted "));
     for line in &mut lines {
         if line.starts_with("view ") {
             let mut fields: Vec<&str> = line.split(' ').collect();
@@ -439,6 +465,7 @@ fn a_seed_gives_the_same_runs_in_either_arrangement() {
         &["damaged"],
         &["refused"],
         &["repaired"],
+        &["cancels"],
         &["--replays", "3"],
         &["--cuts", "2"],
     ] {
@@ -577,6 +604,9 @@ fn wrong_arguments_are_refused() {
         &["--cuts", "x", "1", "2", "3"],
         &["--cuts", "3", "totals", "1", "2"],
         &["repaired", "1", "2"],
+        &["cancels", "1", "2"],
+        &["cancels", "1", "2", "81"],
+        &["cancels", "--sectors", "9", "1", "2", "3"],
         &["repaired", "--cuts", "1", "1", "2", "3"],
         &["--sectors", "4294967296", "1", "2", "3"],
         &["1", "2", "3", "--sectors", "9"],

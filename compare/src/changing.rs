@@ -1,13 +1,17 @@
-//! Discs and commands whose lists are cut.
+//! Runs of commands that change generated discs.
 
+use crate::difference::describe;
 use crate::discs;
 use crate::kind::Kind;
+use crate::pair::Pair;
+use crate::run::{random_of, Draw};
+use crate::writing::Writing;
 use reference::command::{Buffer, Command};
 use reference::generate::{capacity, fresh_name, standing_names, Random};
 use reference::writes_book::list_length;
 
 const LONGEST_SHEET: usize = 65_536;
-const LONGEST_SECTORS: usize = 260;
+pub const LONGEST_SECTORS: usize = 260;
 /// Where there is room for it, one command in so many is the longest save.
 const LONGEST_IN: usize = 3;
 const FEW_SECTORS: usize = 4;
@@ -15,6 +19,41 @@ const FEW_SECTORS: usize = 4;
 const MOST_OTHERS: usize = 3;
 /// About the bytes of a sector.
 const MOST_SHORTER: usize = 250;
+
+/// A run depends on the seed and its number alone.
+pub struct Run {
+    pub seed: u64,
+    pub number: u64,
+    pub writing: Writing,
+    pub draw: Draw,
+}
+
+impl Run {
+    /// Draws commands and has them made, on a disc whose kind is the number's turn.
+    /// The first failure ends it and is printed; whether there was none.
+    pub fn passes(
+        &self,
+        mut make: impl FnMut(&mut Random, &mut Pair, Kind, &Command) -> Result<(), String>,
+    ) -> bool {
+        let random = &mut random_of(self.seed, self.number);
+        let kind = Kind::ALL[self.number as usize % Kind::ALL.len()];
+        let (image, most) = some_disc(random, kind);
+        let mut pair = Pair::new(random, image, kind.numbers(), self.writing);
+        (0..random.between(1, most)).all(|at| {
+            let command = (self.draw)(random, pair.image(), kind);
+            let made = make(random, &mut pair, kind, &command);
+            made.map_err(|text| self.report(at, &command, kind, &text))
+                .is_ok()
+        })
+    }
+
+    fn report(&self, at: usize, command: &Command, kind: Kind, text: &str) {
+        let Run { seed, number, .. } = self;
+        println!("FAILED: seed {seed}, run {number}, command {at}");
+        println!("  {}", describe(command, kind.numbers()));
+        println!("  {text}");
+    }
+}
 
 /// A disc, and how many commands are made on it at most.
 pub fn some_disc(random: &mut Random, kind: Kind) -> (Vec<u8>, usize) {
@@ -53,6 +92,19 @@ pub fn changing_command(random: &mut Random, image: &[u8], kind: Kind) -> Comman
             old: name,
             new: fresh_name(random),
             writes,
+        },
+    }
+}
+
+/// Of a standing file, if there is one, and else a small save.
+pub fn rename_command(random: &mut Random, image: &[u8], kind: Kind) -> Command {
+    let standing = standing_names(image, kind.sectors(), kind.arrangement());
+    match standing.len() {
+        0 => any_save(random, FEW_SECTORS),
+        files => Command::Rename {
+            old: standing[random.below(files)].clone(),
+            new: fresh_name(random),
+            writes: room(random, 0),
         },
     }
 }
