@@ -19,7 +19,7 @@ use Rattle.format.specs.Geometry.{Format, Geometry, geometry, sectors, sectorAt
 use Rattle.format.specs.Formats.{GoodFormat}
 use Rattle.format.specs.Arrangements.{Arranged}
 use Rattle.format.specs.GeometryLaws.{pointed-stop, pointed-none, place-back, sector-full, byte-cut}
-use Rattle.format.specs.Layout.{directoryPlace, linkPlace, pairAt, linkOf, directory, free}
+use Rattle.format.specs.Layout.{directoryPlace, linkPlace, pairAt, linkOf, directoryPointer, directory, free}
 use Rattle.format.specs.ChainLaws.{chain-stops, SameLink, chain-frame}
 use Rattle.format.specs.Check.{broken}
 use Rattle.format.specs.Names.{stored}
@@ -119,18 +119,21 @@ module _ {F : Format} (f : GoodFormat F) (image : List ℕ) (G : Geometry) (g : 
   same-system : sector d′ 0 ≡ sector d 0
   same-system = let one = laid-one l 0 in stays 0 (omega (arith, laid-sum l, l .filed .some-directory)) (zero-or _ (λ h. omega (arith, one .low (omega arith))))
 
+  same-pointer : directoryPointer G d′ ≡ directoryPointer G d
+  same-pointer = ap (λ (r : List ℕ). pairAt G r directoryPlace) same-system
+
   filed′ : Filed G d′ (directory G d)
-  filed′ = frame-filed d′ (l .filed) (ap (λ (r : List ℕ). pairAt G r directoryPlace) same-system) in-place
+  filed′ = frame-filed d′ (l .filed) same-pointer in-place
 
   same-entries : entriesOf d′ (directory G d) ≡ entriesOf d (directory G d)
-  same-entries = frame-entries d′ (l .filed) (ap (λ (r : List ℕ). pairAt G r directoryPlace) same-system) in-place
+  same-entries = frame-entries d′ (l .filed) same-pointer in-place
 
   laid′ : Laid G d′ (directory G d) (free G d)
   laid′ =
       record {
         filed = filed′;
         free-chain = rw same-system (chain-frame d′ (l .free-chain) (at-all (free G d) (λ n h. links n (laid-one l n .high (omega arith)))));
-        once = rw (frame-met d′ (l .filed) (ap (λ (r : List ℕ). pairAt G r directoryPlace) same-system) in-place) (l .once);
+        once = rw (frame-met d′ (l .filed) same-pointer in-place) (l .once);
         free-counted = rw same-system (l .free-counted);
         used-counted = rw (same-system, same-entries) (l .used-counted);
       }
@@ -154,7 +157,7 @@ module _ {F : Format} (f : GoodFormat F) (image : List ℕ) (G : Geometry) (g : 
       }
     where
       same-book : openingBook G d′ ≡ openingBook G d
-      same-book = book-stays (l .filed) filed′ (frame-files d′ (l .filed) (ap (λ (r : List ℕ). pairAt G r directoryPlace) same-system) in-place)
+      same-book = book-stays (l .filed) filed′ (frame-files d′ (l .filed) same-pointer in-place)
 
 -- drawn from the first law
 pub must-cancel : {F : Format} → GoodFormat F → SaveDeleteCancel F → (image : List ℕ) (G : Geometry) → geometry F (length image) ≡ ok G → AllBytes image
@@ -170,19 +173,19 @@ must-cancel {F} f claim image G g bytes name again same m buffer buffer′ e no-
 
 -- ---- drawn from the second law: a third rename joins them too, lent what the first was
 
-pub must-three : (F : Format) → RenamesJoin F → (image a b c e buffer buffer′ buffer″ : List ℕ)
+pub must-three : (F : Format) → RenamesJoin F → (image a b c x buffer buffer′ buffer″ : List ℕ)
     → let first = afterRename F image a b buffer in
     let second = afterRename F (first .image) b c buffer′ in
-    let third = afterRename F (second .image) c e buffer″ in
-    let direct = afterRename F image a e buffer in
+    let third = afterRename F (second .image) c x buffer″ in
+    let direct = afterRename F image a x buffer in
     first .number ≡ 0 → second .number ≡ 0 → third .number ≡ 0 → stored c ≢ stored a
-    → (stored e ≢ stored a → (direct .number ≡ 0) × (third .image ≡ direct .image)) × (stored e ≡ stored a → third .image ≡ image)
+    → (stored x ≢ stored a → (direct .number ≡ 0) × (third .image ≡ direct .image)) × (stored x ≡ stored a → third .image ≡ image)
 unfolding RenamesJoin
-must-three F claim image a b c e buffer buffer′ buffer″ done done′ done″ other =
+must-three F claim image a b c x buffer buffer′ buffer″ done done′ done″ other =
     let two = claim image a b c a b c refl refl refl buffer buffer′ done done′ .0 other in
-    let now : afterRename F (afterRename F (afterRename F image a b buffer .image) b c buffer′ .image) c e buffer″
-    ≡ afterRename F (afterRename F image a c buffer .image) c e buffer″ = ap (λ (i : List ℕ). afterRename F i c e buffer″) (two .1) in
-    let three = claim image a c e a c e refl refl refl buffer buffer″ (two .0) (ap (λ (x : ChangeAnswer). x .number) (sym now) ∙ done″) in (
-      (λ ne. (three .0 ne .0, ap (λ (x : ChangeAnswer). x .image) now ∙ three .0 ne .1)),
-      (λ home. ap (λ (x : ChangeAnswer). x .image) now ∙ three .1 home),
+    let now : afterRename F (afterRename F (afterRename F image a b buffer .image) b c buffer′ .image) c x buffer″
+    ≡ afterRename F (afterRename F image a c buffer .image) c x buffer″ = ap (λ (i : List ℕ). afterRename F i c x buffer″) (two .1) in
+    let three = claim image a c x a c x refl refl refl buffer buffer″ (two .0) (ap (λ (r : ChangeAnswer). r .number) (sym now) ∙ done″) in (
+      (λ ne. (three .0 ne .0, ap (λ (r : ChangeAnswer). r .image) now ∙ three .0 ne .1)),
+      (λ home. ap (λ (r : ChangeAnswer). r .image) now ∙ three .1 home),
     )

@@ -8,7 +8,7 @@ use native.Mathlib.Decide.{ℕ-discrete, decLe}
 use mathlib.Core.Bool.{true, false, cond, _&&_, _||_, true≢false}
 use mathlib.Core.Option.{Option, none, some}
 use mathlib.Core.List.{List, [], _∷_, _++_, append-nil}
-use lib.ListN.{length, take, drop, List·getD-eq-default}
+use lib.ListN.{length, drop, List·getD-eq-default}
 use lib.Seq.{getD-take, getD-drop}
 use lib.Dec.{eqb, leb}
 use borrow.Author.Tests.{eqb-true, eq-eqb, le-leb}
@@ -280,8 +280,8 @@ module _ (G : Geometry) (u : Bounded G) (d : Disc) (z : Full G d) (small : Count
           let fresh = not-found (l .filed) (q .nine) (q .absent) in
           let v = open-saving u l z (q .nine) legal nine-long fresh m room′ in
           let lies = open-lies (l .filed) o in
-          let d₁ : Disc = savedOpen G d (q .nine) (take (sectorsFor (length (m .bytes))) (free G d)) (bodies m) s in
-          let t : Slot = newSlot G (q .nine) (take (sectorsFor (length (m .bytes))) (free G d)) (s .home) (s .index) in
+          let d₁ : Disc = savedOpen G d (q .nine) (fileTook G d m) (bodies m) s in
+          let t : Slot = newSlot G (q .nine) (fileTook G d m) (s .home) (s .index) in
           let saved : written ws d ≡ d₁ =
           ap (λ (us : List Write). written us d) (sym (q .writes)) ∙ open-is u l z (q .nine) legal nine-long fresh m s o room′ in
           let name-is : q′ .nine ≡ q .nine = some-is (sym (q′ .typed) ∙ same ∙ q .typed) in
