@@ -4,12 +4,12 @@ use mathlib.Core.Path.{_≡_, refl, sym, ap, ap₂, subst, _∙_}
 use Prim.Native.Nat.{ℕ}
 use mathlib.Core.List.{List}
 use lib.ListN.{length}
-use Rattle.disc.specs.Laws.{image-whole, Opened}
+use Rattle.geometry.specs.Laws.{image-whole, Opened}
 use Rattle.format.specs.Refusals.{Try, Refusal, SIZE, numberOf, refused, ok, _>>=_, number, valueOr}
 use Rattle.format.specs.Geometry.{Format, Geometry, geometry, Disc, cut, flat, Write, written}
 use Rattle.format.specs.Calls.{answered, answerBy, asked, changed}
-use Rattle.disc.specs.Meaning.{geo, sectorsOf, form}
-use Rattle.disc.specs.declared.Geometry as code
+use Rattle.geometry.specs.Meaning.{geo, sectorsOf, form}
+use Rattle.geometry.specs.declared.Geometry as code
 use Rattle.answers.specs.Meaning.{Refuses, writtenBy, Leaves}
 
 -- ---- refused on the way
@@ -31,7 +31,11 @@ refuses-leaves g image (ok ws) k h = absurd h
 pub done-leaves : (g : code.Geometry) (before after : List ℕ) (t : Try Refusal (List Write)) (ws : List Write) → t ≡ ok ws
     → sectorsOf g after ≡ written ws (sectorsOf g before) → Leaves g before after 0 t
 unfolding number
-done-leaves g before after t ws e h = record { answers = sym (ap number e); sectors-are = h ∙ sym (ap (λ (t : Try Refusal (List Write)). writtenBy t (sectorsOf g before)) e) }
+done-leaves g before after t ws e h =
+    record {
+      answers = sym (ap number e);
+      sectors-are = h ∙ sym (ap (λ (t : Try Refusal (List Write)). writtenBy t (sectorsOf g before)) e);
+    }
 
 -- ---- from sectors to the image
 
@@ -63,6 +67,6 @@ module _ {F : Format} {g : code.Geometry} {image : List ℕ} (o : Opened F g ima
       whole x h = image-whole (o .on-image) x h
 
       by : (t : Try Refusal (List Write)) → Leaves g image after r t
-          → answered r after ≡ answered (number (t >>= λ ws. ok (flat (form g) (geo g) (written ws (sectorsOf g image))))) (valueOr image (t >>= λ ws. ok (flat (form g) (geo g) (written ws (sectorsOf g image)))))
+          → answered r after ≡ answerBy image (t >>= λ ws. ok (flat (form g) (geo g) (written ws (sectorsOf g image))))
       by (refused q) l = ap₂ answered (l .answers) (sym (whole after long) ∙ ap (flat (form g) (geo g)) (l .sectors-are) ∙ whole image refl)
       by (ok ws) l = ap₂ answered (l .answers) (sym (whole after long) ∙ ap (flat (form g) (geo g)) (l .sectors-are))

@@ -7,15 +7,15 @@ use mathlib.Core.List.{List}
 use lib.ListN.{length}
 use lib.Dec.{ltb}
 use borrow.Author.Tests.{lt-ltb, le-ltb}
-use Rattle.format.specs.Lists.{front}
+use Rattle.lists.specs.Lists.{front}
 use Rattle.format.specs.Refusals.{Try, Refusal, SIZE, SHORT, refused, ok, _>>=_, _>>_, refuse_if_, number}
 use Rattle.format.specs.Geometry as format
 use Rattle.format.specs.Geometry.{Format, geometry, Disc, flat, Write, written}
 use Rattle.format.specs.Writes.{writeList}
 use Rattle.format.specs.Calls.{listed, changeAnswerBy}
-use Rattle.disc.specs.Meaning.{form, geo, sectorsOf}
-use Rattle.disc.specs.Laws.{Opened, image-whole}
-use Rattle.disc.specs.declared.Geometry.{Geometry}
+use Rattle.geometry.specs.Meaning.{form, geo, sectorsOf}
+use Rattle.geometry.specs.Laws.{Opened, image-whole}
+use Rattle.geometry.specs.declared.Geometry.{Geometry}
 use Rattle.answers.specs.declared.Filled.{Filled}
 use Rattle.answers.specs.Meaning.{Refuses, writtenBy, fitting, listBy, Lists, changeAnswer}
 

@@ -5,14 +5,14 @@ use Prim.Native.Nat.{ℕ}
 use mathlib.Core.List.{List, []}
 use lib.ListN.{length}
 use lib.Dec.{ltb}
-use Rattle.format.specs.Lists.{front}
+use Rattle.lists.specs.Lists.{front}
 use Rattle.format.specs.Refusals.{Try, Refusal, SHORT, numberOf, refused, ok, _>>=_, _>>_, refuse_if_, number}
 use Rattle.format.specs.Geometry as format
 use Rattle.format.specs.Geometry.{Disc, Write, written}
 use Rattle.format.specs.Writes.{writeList}
 use Rattle.format.specs.Calls.{ChangeAnswer}
-use Rattle.disc.specs.Meaning.{geo, sectorsOf}
-use Rattle.disc.specs.declared.Geometry.{Geometry}
+use Rattle.geometry.specs.Meaning.{geo, sectorsOf}
+use Rattle.geometry.specs.declared.Geometry.{Geometry}
 use Rattle.answers.specs.declared.Filled.{Filled}
 
 -- refused with the number k

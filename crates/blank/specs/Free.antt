@@ -9,15 +9,12 @@ use mathlib.Core.Bool.{Bool, true, false, not}
 use mathlib.Core.List.{List, [], _∷_, _++_, map}
 use lib.ListN.{drop}
 use borrow.Author.Tests.{ne-eqb}
-use Rattle.format.specs.Lists.{filter, elem, range, joined, times, Once}
-use Rattle.format.specs.ListLaws.{All, done, _also_, all-map, all-mapped, all-join, at-all, filter-join, filter-yes, filter-no, times-here, times-past, once-inside}
+use Rattle.lists.specs.Lists.{filter, elem, range, joined, times, Once}
+use Rattle.lists.specs.ListLaws.{All, done, all-map, all-mapped, all-join, at-all}
+use Rattle.lists.specs.ListLaws.{filter-join, filter-no, times-here, times-past, once-inside, filter-whole}
 use Rattle.format.specs.Geometry.{Format, Geometry, tracked, sectorNumber}
 use Rattle.format.specs.Formats.{GoodFormat, order-begins, four}
 use Rattle.format.specs.Effects.{passing, blankDirectory, blankFree}
-
-filter-whole : {A : Type 0} (p : A → Bool) {xs : List A} → All (λ x. p x ≡ true) xs → filter p xs ≡ xs
-filter-whole p done = refl
-filter-whole {A = A} p (_also_ {x = x} {xs = xs} h hs) = filter-yes p x xs h ∙ ap (λ (r : List A). x ∷ r) (filter-whole p hs)
 
 module _ (F : Format) (f : GoodFormat F) (T : ℕ) where
   abbrev G : Geometry

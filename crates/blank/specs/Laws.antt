@@ -1,13 +1,13 @@
 -- The cases of the blank disc's answer, and its system sector stored field by field.
 -- Assumes nothing.
-use mathlib.Core.Path.{_≡_, ap, ap₂, _∙_}
+use mathlib.Core.Path.{_≡_}
 use Prim.Native.Nat.{ℕ, _-_}
 use mathlib.Core.Option.{none, some}
 use mathlib.Core.List.{List, _++_}
 use lib.ListN.{length, replicate}
 use lib.Seq.{sets}
 use Rattle.format.specs.Refusals.{SIZE, refused, ok, _>>=_, _orRefuse_, number, valueOr}
-use Rattle.format.specs.Lists.{word}
+use Rattle.lists.specs.Lists.{word}
 use Rattle.format.specs.Geometry.{Format, Geometry, geometry, sectors, go, flat}
 use Rattle.format.specs.Names.{discName}
 use Rattle.format.specs.Layout.{freePlace, freeCountPlace, discNamePlace, versionPlace, pairBytes}
@@ -15,12 +15,11 @@ use Rattle.format.specs.Effects.{headOf, version, blankDirectory, blankFree, bl
 use Rattle.format.specs.Calls.{answered, answerBy, blank, afterBlank}
 
 -- the system sector over zeros; the two pointers stand side by side
-pub system-is : (G : Geometry) (nine s pairs : List ℕ) (n : ℕ) → s ≡ replicate 256 0 → pairs ≡ pairBytes G (headOf (blankFree G)) ++ pairBytes G (go (blankDirectory G)) → n ≡ sectors G
+pub system-is : (G : Geometry) (nine s pairs : List ℕ) (n : ℕ) → s ≡ replicate 256 0
+    → pairs ≡ pairBytes G (headOf (blankFree G)) ++ pairBytes G (go (blankDirectory G)) → n ≡ sectors G
     → sets (sets (sets (sets s freePlace pairs) freeCountPlace (word (n - 2) ++ word 0)) discNamePlace nine) versionPlace version ≡ blankSystem G nine
 unfolding blankSystem
-system-is G nine s pairs n zeros ps many =
-    ap₂ (λ (s pairs : List ℕ). sets (sets (sets (sets s freePlace pairs) freeCountPlace (word (n - 2) ++ word 0)) discNamePlace nine) versionPlace version) zeros ps
-    ∙ ap (λ (n : ℕ). sets (sets (sets (sets (replicate 256 0) freePlace (pairBytes G (headOf (blankFree G)) ++ pairBytes G (go (blankDirectory G)))) freeCountPlace (word (n - 2) ++ word 0)) discNamePlace nine) versionPlace version) many
+system-is G nine s pairs n zeros ps many = rw (zeros, ps, many)
 
 module _ (F : Format) (image name : List ℕ) where
   pub blank-size : geometry F (length image) ≡ refused SIZE → afterBlank F image name ≡ answered 1 image

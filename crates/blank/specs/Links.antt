@@ -4,27 +4,31 @@ use mathlib.Core.Path.{_≡_, refl, sym, ap, ap₂, subst, _∙_}
 use Prim.Native.Nat.{ℕ, zero, suc, _+_, _*_, _%_, _-_, _≤_, _<_}
 use native.Mathlib.Omega.{arith}
 use native.Mathlib.Numerals.{add-one}
-use mathlib.Core.Bool.{true, not, false≢true}
+use mathlib.Core.Bool.{Bool, true, not, false≢true}
 use mathlib.Core.List.{List, [], _∷_, _++_}
 use lib.ListN.{length, getD, set, drop, replicate, length-drop, drop-of-length-le}
 use lib.Seq.{drop-cons, getD-drop}
-use Rattle.format.specs.Lists.{elem}
-use Rattle.format.specs.ListLaws.{All, all-getD, filter-all}
+use Rattle.lists.specs.Lists.{elem}
+use Rattle.lists.specs.ListLaws.{All, all-getD, filter-all}
 use Rattle.format.specs.Geometry.{Disc, sector, sectors, sectorNumber, onDisc, Write, written}
 use Rattle.format.specs.GeometryLaws.{length-cut, on-disc}
 use Rattle.format.specs.Layout.{linkBytes}
 use Rattle.format.specs.Effects.{body, headOf, chained, passing, blankDirectory, blankFree}
-use Rattle.disc.specs.Meaning.{form, geo, sectorsOf, Valid}
-use Rattle.disc.specs.Laws.{good}
-use Rattle.disc.specs.declared.Geometry.{Geometry}
+use Rattle.geometry.specs.Meaning.{form, geo, sectorsOf, Valid}
+use Rattle.geometry.specs.Laws.{good}
+use Rattle.geometry.specs.declared.Geometry.{Geometry}
 use Rattle.disc.specs.declared.Place.{Place}
 use Rattle.passing.specs.Meaning.{Stop, Passed}
-use Rattle.passing.specs.Places.{passing-as-long, place-high, track-inside, stop-number}
+use Rattle.passing.specs.Positions.{passing-as-long, position-high, track-inside, stop-number}
 use Rattle.blank.specs.Meaning.{Bare}
 use Rattle.blank.specs.Zeros.{bare-set}
 use Rattle.blank.specs.Free.{blank-free}
 
--- the writes of the chain from place k on
+-- the write of the link of the sector at position k, to the one at `next`
+abbrev pub linkAt : Geometry → ℕ → ℕ → Write
+linkAt g k next = record { at = getD (passing (geo g)) k 0; bytes = linkBytes (geo g) (headOf (drop next (passing (geo g)))) ++ replicate 254 0 }
+
+-- the writes of the chain from position k on
 unfoldable pub linksFrom : Geometry → ℕ → List Write
 linksFrom g k = chained (geo g) (drop k (passing (geo g))) (replicate (g .sectors - k) (replicate 254 0))
 
@@ -33,10 +37,9 @@ module _ {g : Geometry} (v : Valid g) where
   pub directory-on : onDisc (geo g) 0 4 ≡ true
   directory-on = on-disc (geo g) 0 4 (v .some-track) (omega arith) (omega (arith, v .nine-on-track))
 
-  -- ---- the writes from place k on
+  -- ---- the writes from position k on
 
-  pub links-step : (k : ℕ) → k < g .sectors
-      → linksFrom g k ≡ record { at = getD (passing (geo g)) k 0; bytes = linkBytes (geo g) (headOf (drop (k + 1) (passing (geo g)))) ++ replicate 254 0 } ∷ linksFrom g (k + 1)
+  pub links-step : (k : ℕ) → k < g .sectors → linksFrom g k ≡ linkAt g k (k + 1) ∷ linksFrom g (k + 1)
   unfolding linksFrom chained
   links-step k h =
       let left : g .sectors - k ≡ suc (g .sectors - (k + 1)) = omega arith in
@@ -58,21 +61,26 @@ module _ {g : Geometry} (v : Valid g) where
   links-whole =
       ap₂ (λ (ns : List ℕ) (n : ℕ). chained (geo g) ns (replicate (n - 2) (replicate 254 0))) (sym free-is) (v .total)
 
-  -- the sectors after the first two places are not 0/1
-  pub place-low : (k : ℕ) → 2 ≤ k → k < g .sectors → 0 < getD (passing (geo g)) k 0
+  abbrev isFree : ℕ → Bool
+  isFree n = not (elem n (0 ∷ blankDirectory (geo g) ∷ []))
+
+  -- the sectors after the first two positions are not 0/1
+  pub position-low : (k : ℕ) → 2 ≤ k → k < g .sectors → 0 < getD (passing (geo g)) k 0
   unfolding blankFree
-  place-low k low high =
+  position-low k low high =
       let j : ℕ = k - 2 in
       let e : 2 + j ≡ k = omega arith in
       let long : length (drop 2 (passing (geo g))) ≡ g .sectors - 2 = length-drop 2 (passing (geo g)) ∙ ap (λ (n : ℕ). n - 2) (passing-as-long v) in
-      let kept = all-getD {P = λ n. not (elem n (0 ∷ blankDirectory (geo g) ∷ [])) ≡ true} j 0 (subst (All (λ n. not (elem n (0 ∷ blankDirectory (geo g) ∷ [])) ≡ true)) free-is (filter-all (λ n. not (elem n (0 ∷ blankDirectory (geo g) ∷ []))) (passing (geo g)))) (omega (arith, long)) in
-      not-system (getD (passing (geo g)) k 0) (subst (λ (n : ℕ). not (elem n (0 ∷ blankDirectory (geo g) ∷ [])) ≡ true) (getD-drop 2 (passing (geo g)) j 0 ∙ ap (λ (n : ℕ). getD (passing (geo g)) n 0) e) kept)
+      let all = subst (All (λ n. isFree n ≡ true)) free-is (filter-all isFree (passing (geo g))) in
+      let kept = all-getD {P = λ n. isFree n ≡ true} j 0 all (omega (arith, long)) in
+      let is = getD-drop 2 (passing (geo g)) j 0 ∙ ap (λ (n : ℕ). getD (passing (geo g)) n 0) e in
+      not-system (getD (passing (geo g)) k 0) (subst (λ (n : ℕ). isFree n ≡ true) is kept)
     where
-      not-system : (n : ℕ) → not (elem n (0 ∷ blankDirectory (geo g) ∷ [])) ≡ true → 0 < n
+      not-system : (n : ℕ) → isFree n ≡ true → 0 < n
       not-system zero h = absurd (false≢true h)
       not-system (suc n) h = omega arith
 
--- the links of places k to m are written: those from m on, written now, give what those from k on gave before
+-- the links of positions k to m are written: those from m on, written now, give what those from k on gave before
 pub record Linked (g : Geometry) (k m : ℕ) (before after : List ℕ) : Type 0 where
   pub bare : Bare (sectorsOf g after)
   pub links : written (linksFrom g m) (sectorsOf g after) ≡ written (linksFrom g k) (sectorsOf g before)
@@ -83,7 +91,7 @@ linked-none g k x z = record { bare = z; links = refl }
 pub linked-more : {g : Geometry} {k m n : ℕ} {x y z : List ℕ} → Linked g k m x y → Linked g m n y z → Linked g k n x z
 linked-more a b = record { bare = b .bare; links = b .links ∙ a .links }
 
--- the link of the sector at place i of a track, which the code has as a stop
+-- the link of the sector at position i of a track, which the code has as a stop
 module _ {g : Geometry} (v : Valid g) (track i : ℕ) (on : track < g .tracks) (h : i < geo g .perTrack)
     (stop : ℕ) (is : Stop g (getD (geo g .order) i 0) stop) where
   abbrev k : ℕ
@@ -92,8 +100,8 @@ module _ {g : Geometry} (v : Valid g) (track i : ℕ) (on : track < g .tracks) (
   pub here-bare : 2 ≤ k → (x : List ℕ) → Bare (sectorsOf g x) → body (sector (sectorsOf g x) (sectorNumber (geo g) track (stop % 256))) ≡ replicate 254 0
   here-bare low x z =
       let inside = track-inside v track i on h in
-      z .zeros _ (omega (arith, stop-number v track i on h stop is, place-low v k low inside))
-      (omega (arith, stop-number v track i on h stop is, place-high v k inside, length-cut (form g) (geo g) x, v .total))
+      z .zeros _ (omega (arith, stop-number v track i on h stop is, position-low v k low inside))
+      (omega (arith, stop-number v track i on h stop is, position-high v k inside, length-cut (form g) (geo g) x, v .total))
 
   pub linked-here : (m : ℕ) → m ≡ k + 1 → (r : Place) → Passed g m r → (x y : List ℕ) → Bare (sectorsOf g x)
       → sectorsOf g y ≡ set (sectorsOf g x) (sectorNumber (geo g) track (stop % 256)) (r .track ∷ r .sector ∷ replicate 254 0) → Linked g k m x y
@@ -102,8 +110,7 @@ module _ {g : Geometry} (v : Valid g) (track i : ℕ) (on : track < g .tracks) (
       let stored : ℕ → ℕ → ℕ → Disc = λ n t b. set d n (t ∷ b ∷ replicate 254 0) in
       let as-passed = e ∙ ap (λ (n : ℕ). stored n (r .track) (r .sector)) (stop-number v track i on h stop is)
       ∙ ap₂ (stored (getD (passing (geo g)) k 0)) (p .track-is) (p .sector-is) in
-      let step = links-step v k (track-inside v track i on h)
-      ∙ ap (λ (j : ℕ). record { at = getD (passing (geo g)) k 0; bytes = linkBytes (geo g) (headOf (drop j (passing (geo g)))) ++ replicate 254 0 } ∷ linksFrom g j) (sym next) in
+      let step = links-step v k (track-inside v track i on h) ∙ ap (λ (j : ℕ). linkAt g k j ∷ linksFrom g j) (sym next) in
       record {
         bare = subst Bare (sym e) (bare-set d _ _ _ z);
         links = ap (written (linksFrom g m)) as-passed ∙ ap (λ (ws : List Write). written ws d) (sym step);

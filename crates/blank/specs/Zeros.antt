@@ -1,26 +1,18 @@
--- Zeros: a list that is cleared from the front, the sectors of an image of zeros, and links written into them.
+-- Zeros: the sectors of an image of zeros, and links written into them.
 -- Assumes nothing.
 use mathlib.Core.Path.{_≡_, refl, sym, ap, ap₂, _∙_}
 use Prim.Native.Nat.{ℕ, zero, suc, _+_, _*_, _≤_, _<_}
 use native.Mathlib.Omega.{arith}
 use native.Mathlib.Decide.{ℕ-discrete}
-use native.Mathlib.Numerals.{add-one}
 use mathlib.Core.List.{List, [], _∷_, _++_}
 use lib.ListN.{length, set, take, drop, replicate, replicate-append-replicate, getD-replicate, length-set, length-replicate}
-use lib.Seq.{sets, sets-eq, take-suc-set, take-at, drop-at, ext-getD}
+use lib.Seq.{sets, sets-eq, take-at, drop-at, ext-getD}
 use Rattle.format.specs.Geometry.{Format, Geometry, sectors, placeOf, Disc, sector, chunks, reordered, cut}
 use Rattle.format.specs.Arrangements.{Arranged, reordered-long, reordered-at}
 use Rattle.format.specs.GeometryLaws.{place-below, sector-other, sector-same}
 use Rattle.format.specs.Layout.{linkPlace}
 use Rattle.format.specs.Effects.{body}
 use Rattle.blank.specs.Meaning.{Bare}
-
-pub zeros-step : (xs : List ℕ) (i : ℕ) → i < length xs → take i xs ≡ replicate i 0 → take (i + 1) (set xs i 0) ≡ replicate (i + 1) 0
-zeros-step xs i h e =
-    ap (λ (n : ℕ). take n (set xs i 0)) (add-one i)
-    ∙ take-suc-set xs i 0 h
-    ∙ ap (λ (ys : List ℕ). ys ++ (0 ∷ [])) e
-    ∙ replicate-append-replicate i 1 0
 
 chunks-zeros : (n : ℕ) → chunks n (replicate (256 * n) 0) ≡ replicate n (replicate 256 0)
 unfolding chunks

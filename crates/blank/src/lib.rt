@@ -1,10 +1,9 @@
 // The blank disc.
-use disc::Geometry;
 use disc::Link;
 use disc::Place;
-use disc::SectorNo;
-use disc::Sized;
-use disc::Stated;
+use geometry::Geometry;
+use geometry::Sized;
+use geometry::Stated;
 use names::Name;
 ghost use mathlib.Core.Path.{_≡_};
 ghost use Prim.Native.Nat.{_+_, _*_, _%_, _-_, _≤_, _<_};
@@ -14,7 +13,8 @@ ghost use Rattle.format.specs.Geometry.{sectors, sectorNumber, go, sector, writ
 ghost use Rattle.format.specs.Layout.{versionPlace, pairBytes};
 ghost use Rattle.format.specs.Effects.{body, headOf, chained, version, blankDirectory, blankFree, blankSystem, blankDisc};
 ghost use Rattle.format.specs.Calls.{answered, afterBlank};
-ghost use Rattle.disc.specs.Meaning.{kindOf, geo, sectorsOf, storedAt, Valid, Image};
+ghost use Rattle.geometry.specs.Meaning.{kindOf, geo, sectorsOf, Valid, Image};
+ghost use Rattle.disc.specs.Meaning.{storedAt};
 ghost use Rattle.passing.specs.Meaning.{Stop, Stops, Passed};
 ghost use Rattle.blank.specs.Meaning.{Bare};
 ghost use Rattle.blank.specs.Links.{Linked};
@@ -22,16 +22,11 @@ ghost use Rattle.blank.specs.Links.{Linked};
 // 0/1 and 0/4, which the chain passes first, are taken.
 const TAKEN: usize = 2;
 
-const SYSTEM: SectorNo = SectorNo(0);
-
 fn clear(image: &mut [u8])
     ensures { λ _. ⌜ now (image .exit) ≡ replicate (length (now (image .entry))) 0 ⌝ }
 {
-    let mut i: usize = 0;
-    while i < image.len() {
-        image[i] = 0;
-        i += 1;
-    }
+    let length = image.len();
+    bytes::fill(image, 0, length, 0);
 }
 
 // Writes the link of a sector that has zeros after it.
@@ -59,7 +54,7 @@ fn after_track(g: Geometry, stops: &[u16], track: usize) -> Place
     disc::NOWHERE
 }
 
-// Writes the links of a track, from place first on, into sectors of zeros.
+// Writes the links of a track, from position `first` on, into sectors of zeros.
 fn put_track(image: &mut [u8], g: Geometry, stops: &[u16], track: usize, first: usize)
     requires { ⌜ Image g (now image) × Stops g (now stops) × (track < g .tracks) × (first < geo g .perTrack)
         × (2 ≤ geo g .perTrack * track + first) × Bare (sectorsOf g (now image)) ⌝ }
@@ -83,7 +78,8 @@ fn put_track(image: &mut [u8], g: Geometry, stops: &[u16], track: usize, first: 
 // Writes the links of the free chain into sectors of zeros.
 fn put_chain(image: &mut [u8], g: Geometry, stops: &[u16])
     requires { ⌜ Image g (now image) × Stops g (now stops) × Bare (sectorsOf g (now image)) ⌝ }
-    ensures { λ _. ⌜ sectorsOf g (now (image .exit)) ≡ written (chained (geo g) (blankFree (geo g)) (replicate (sectors (geo g) - 2) (replicate 254 0))) (sectorsOf g (now (image .entry))) ⌝ }
+    ensures { λ _. ⌜ sectorsOf g (now (image .exit)) ≡
+        written (chained (geo g) (blankFree (geo g)) (replicate (sectors (geo g) - 2) (replicate 254 0))) (sectorsOf g (now (image .entry))) ⌝ }
 {
     put_track(image, g, stops, 0, TAKEN);
     let mut track: usize = 1;
@@ -98,7 +94,7 @@ fn pointers(g: Geometry, stops: &[u16]) -> [u8; 4]
     requires { ⌜ Valid g × Stops g (now stops) ⌝ }
     ensures { λ r. ⌜ r ≡ pairBytes (geo g) (headOf (blankFree (geo g))) ++ pairBytes (geo g) (go (blankDirectory (geo g))) ⌝ }
 {
-    let directory = disc::place_of(g, Link::To(disc::number_of(g, 0, 4)));
+    let directory = disc::place_of(g, Link::To(geometry::number_of(g, 0, 4)));
     [
         passing::sector_of_stop(stops[TAKEN]),
         0,
@@ -112,21 +108,27 @@ fn put_version(image: &mut [u8], g: Geometry)
     requires { ⌜ Image g (now image) ⌝ }
     ensures { λ _. ⌜ sectorsOf g (now (image .exit)) ≡ storedAt (sectorsOf g (now (image .entry))) 0 versionPlace version ⌝ }
 {
-    disc::put(image, g, SYSTEM, 0x40, b"TANDOS 65 IMAGE 1");
+    disc::put(
+        image,
+        g,
+        system::SYSTEM,
+        system::VERSION,
+        b"TANDOS 65 IMAGE 1",
+    );
 }
 
 // Writes the system sector of a blank disc over zeros.
-fn put_system(image: &mut [u8], g: Geometry, stops: &[u16], name: Name)
+fn put_blank_system(image: &mut [u8], g: Geometry, stops: &[u16], name: Name)
     requires { ⌜ Image g (now image) × Stops g (now stops) × (sector (sectorsOf g (now image)) 0 ≡ replicate 256 0) ⌝ }
     ensures { λ _. ⌜ sectorsOf g (now (image .exit)) ≡ set (sectorsOf g (now (image .entry))) 0 (blankSystem (geo g) (name .bytes)) ⌝ }
 {
     let pairs = pointers(g, stops);
-    disc::put(image, g, SYSTEM, 0x10, &pairs);
+    disc::put(image, g, system::SYSTEM, system::FREE_POINTER, &pairs);
     let free = g.sectors - TAKEN;
     let counts = [(free % 256) as u8, (free / 256 % 256) as u8, 0, 0];
-    disc::put(image, g, SYSTEM, 0x14, &counts);
+    disc::put(image, g, system::SYSTEM, system::FREE_COUNT, &counts);
     let nine = name.bytes;
-    disc::put(image, g, SYSTEM, 0x18, &nine);
+    disc::put(image, g, system::SYSTEM, system::DISC_NAME, &nine);
     put_version(image, g);
 }
 
@@ -137,14 +139,14 @@ fn blank_on(image: &mut [u8], g: Geometry, name: Name)
 {
     let stops = passing::stops(g);
     clear(image);
-    put_system(image, g, &stops, name);
+    put_blank_system(image, g, &stops, name);
     put_chain(image, g, &stops);
 }
 
 pub fn blank(image: &mut [u8], stated: Stated, name: &[u8]) -> u32
     ensures { λ r. ⌜ answered r (now (image .exit)) ≡ afterBlank (kindOf stated) (now (image .entry)) (now (name .entry)) ⌝ }
 {
-    match disc::geometry_of(stated, image.len()) {
+    match geometry::geometry_of(stated, image.len()) {
         Sized::Wrong => refusals::SIZE,
         Sized::Of(g) => {
             let parsed = names::disc_name(name);

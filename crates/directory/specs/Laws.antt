@@ -1,6 +1,6 @@
--- Laws of Meaning: the steps of a walk, the slots of a sector one after the other, the search, and the bytes of an entry.
+-- Laws of Meaning: the steps of a walk, the slots of a sector one after the other, the search.
 -- Assumes nothing.
-use mathlib.Core.Path.{_≡_, refl, sym, ap, ap₂, _∙_}
+use mathlib.Core.Path.{_≡_, refl, sym, ap, ap₂, _∙_, subst}
 use mathlib.Core.Logic.{_≢_}
 use Prim.Native.Nat.{ℕ, _+_, _-_, _<_}
 use native.Mathlib.Omega.{arith}
@@ -8,19 +8,23 @@ use mathlib.Core.Bool.{Bool, true, false, not, true≢false}
 use mathlib.Core.Option.{none, some}
 use mathlib.Core.List.{List, [], _∷_, _++_, head?}
 use lib.Seq.{getD-take}
-use Rattle.format.specs.Lists.{byte, same, consIf, filter}
-use Rattle.format.specs.ListLaws.{and-true, filter-join, filter-yes, filter-no, same-true}
+use Rattle.lists.specs.Lists.{byte, same, consIf, filter}
+use Rattle.lists.specs.ListLaws.{and-true, filter-join, filter-yes, filter-no, same-true}
 use Rattle.format.specs.Geometry.{Geometry, Next, stop, go, off, Disc, sector}
 use Rattle.format.specs.ChainLaws.{met-stop, met-off, met-none, met-go}
 use Rattle.format.specs.Names.{letter, legalStored}
 use Rattle.format.specs.Layout.{slotsEach, Slot, emptySlot, freeSlot, inUse, nameOf, slotAt, slotsAt, slotsOf, linkOf, met, directoryPointer, directory, slots, entries, find, openSlot}
-use Rattle.disc.specs.Meaning.{geo, meaning, sectorsOf, Image}
+use Rattle.geometry.specs.Meaning.{geo, sectorsOf, Image}
+use Rattle.disc.specs.Meaning.{meaning}
 use Rattle.disc.specs.Laws.{inside}
-use Rattle.disc.specs.declared.Geometry as code
+use Rattle.geometry.specs.declared.Geometry as code
 use Rattle.disc.specs.declared.Link.{Link}
-use Rattle.slots.specs.InOrder.{slotsFrom, slots-next}
-use Rattle.directory.specs.Meaning.{restOf, Started, Met, firstThat}
-use Rattle.directory.specs.declared.Walk.{Walk}
+use Rattle.slots.specs.InOrder.{slotsFrom, slots-all, slots-next, use-join}
+use Rattle.directory.specs.Meaning.{restOf, entriesLeft, Started, Met, Stepped, firstThat}
+use Rattle.geometry.specs.declared.SectorNo.{SectorNo}
+use Rattle.directory.specs.declared.Cursor.{Cursor}
+use Rattle.directory.specs.declared.Step.{Step}
+use Rattle.directory.specs.declared.Step.the-variants.{Sector, End}
 
 -- ---- the walk
 
@@ -35,7 +39,7 @@ module _ {g : code.Geometry} {image : List ℕ} (im : Image g image) where
       }
 
   -- a step to sector n, whose link is l
-  pub step-to : (w : Walk) (n : ℕ) (l : Link) → w .left ≢ 0 → meaning (w .at) ≡ go n → n < g .sectors
+  pub step-to : (w : Cursor) (n : ℕ) (l : Link) → w .left ≢ 0 → meaning (w .at) ≡ go n → n < g .sectors
       → meaning l ≡ linkOf (geo g) (sector (sectorsOf g image) n) → Met g image w n (record { at = l; left = w .left - 1 })
   unfolding restOf
   step-to w n l some-left to on e =
@@ -48,7 +52,7 @@ module _ {g : code.Geometry} {image : List ℕ} (im : Image g image) where
         inside = inside (im .valid) l _ _ e;
       }
 
-module _ (g : code.Geometry) (image : List ℕ) (w : Walk) where
+module _ (g : code.Geometry) (image : List ℕ) (w : Cursor) where
   pub rest-none : w .left ≡ 0 → restOf g image w ≡ []
   unfolding restOf
   rest-none e = ap (λ (k : ℕ). met (geo g) (sectorsOf g image) k (meaning (w .at))) e ∙ met-none (geo g) (sectorsOf g image) (meaning (w .at))
@@ -60,6 +64,14 @@ module _ (g : code.Geometry) (image : List ℕ) (w : Walk) where
   pub rest-off : meaning (w .at) ≡ off → restOf g image w ≡ []
   unfolding restOf
   rest-off e = ap (met (geo g) (sectorsOf g image) (w .left)) e ∙ met-off (geo g) (sectorsOf g image) (w .left)
+
+-- what a step that was made tells: sector n was met, or the walk is over
+module _ (g : code.Geometry) (image : List ℕ) (w : Cursor) {s : Step} where
+  pub stepped-to : {n : SectorNo} {v : Cursor} → s ≡ Sector n v → Stepped g image w s → Met g image w (n .0) v
+  stepped-to e h = subst (Stepped g image w) e h
+
+  pub stepped-end : s ≡ End → Stepped g image w s → restOf g image w ≡ []
+  stepped-end e h = subst (Stepped g image w) e h
 
 -- ---- the slots of sectors
 
@@ -74,6 +86,27 @@ slots-cons d n ns = refl
 pub slots-are : (G : Geometry) (d : Disc) → slots G d ≡ slotsOf d (directory G d)
 unfolding slots
 slots-are G d = refl
+
+-- ---- the entries that a walk still meets
+
+module _ {g : code.Geometry} {image : List ℕ} where
+  pub left-all : {w : Cursor} → Started g image w → entriesLeft g image w ≡ entries (geo g) (sectorsOf g image)
+  unfolding entriesLeft entries slots
+  left-all s = ap (λ (ns : List ℕ). inUse (slotsOf (sectorsOf g image) ns)) (s .all)
+
+  pub left-met : {w v : Cursor} {n : ℕ} → Met g image w n v
+      → entriesLeft g image w ≡ inUse (slotsFrom (sectorsOf g image) n 0) ++ entriesLeft g image v
+  unfolding entriesLeft
+  left-met {v = v} {n = n} m =
+      let d : Disc = sectorsOf g image in
+      ap (λ (ns : List ℕ). inUse (slotsOf d ns)) (m .next)
+      ∙ ap inUse (slots-cons d n (restOf g image v))
+      ∙ use-join (slotsAt d n) (slotsOf d (restOf g image v))
+      ∙ ap (λ (ss : List Slot). inUse ss ++ inUse (slotsOf d (restOf g image v))) (slots-all d n)
+
+pub left-over : (g : code.Geometry) (image : List ℕ) (w : Cursor) → restOf g image w ≡ [] → entriesLeft g image w ≡ []
+unfolding entriesLeft slotsOf inUse
+left-over g image w e = ap (λ (ns : List ℕ). inUse (slotsOf (sectorsOf g image) ns)) e
 
 -- ---- the first that passes a test
 

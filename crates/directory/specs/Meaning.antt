@@ -5,38 +5,42 @@ use Prim.Native.Nat.{ℕ, _<_}
 use mathlib.Core.Bool.{Bool, cond}
 use mathlib.Core.Option.{Option, none, some}
 use mathlib.Core.List.{List, [], _∷_, head?}
-use Rattle.format.specs.Lists.{same, filter}
+use Rattle.lists.specs.Lists.{same, filter}
 use Rattle.format.specs.Geometry.{Disc}
-use Rattle.format.specs.Layout.{slotsEach, Slot, freeSlot, nameOf, lengthOf, attributeOf, slotAt, met, directory, firstOf, lastOf}
-use Rattle.disc.specs.Meaning.{geo, meaning, sectorsOf, Inside}
-use Rattle.disc.specs.declared.Geometry.{Geometry}
-use Rattle.directory.specs.declared.Walk.{Walk}
+use Rattle.format.specs.Layout.{slotsEach, Slot, freeSlot, inUse, nameOf, slotAt, slotsOf, met, directory}
+use Rattle.geometry.specs.Meaning.{geo, sectorsOf}
+use Rattle.disc.specs.Meaning.{meaning, Inside}
+use Rattle.geometry.specs.declared.Geometry.{Geometry}
+use Rattle.directory.specs.declared.Cursor.{Cursor}
 use Rattle.directory.specs.declared.Step.{Step}
 use Rattle.directory.specs.declared.Step.the-variants.{Sector, End}
 use Rattle.directory.specs.declared.Found.{Found}
 use Rattle.directory.specs.declared.Found.the-variants.{At, Nothing}
 use Rattle.directory.specs.declared.Wanted.{Wanted}
-use Rattle.directory.specs.declared.Entry.{Entry}
 
 -- ---- the walk along the directory
 
 -- the sectors that a walk still meets
-unfoldable pub restOf : Geometry → List ℕ → Walk → List ℕ
+unfoldable pub restOf : Geometry → List ℕ → Cursor → List ℕ
 restOf g image w = met (geo g) (sectorsOf g image) (w .left) (meaning (w .at))
 
+-- the entries of these sectors
+unfoldable pub entriesLeft : Geometry → List ℕ → Cursor → List Slot
+entriesLeft g image w = inUse (slotsOf (sectorsOf g image) (restOf g image w))
+
 -- a walk that starts meets the sectors of the directory
-pub record Started (g : Geometry) (image : List ℕ) (w : Walk) : Type 0 where
+pub record Started (g : Geometry) (image : List ℕ) (w : Cursor) : Type 0 where
   pub all : restOf g image w ≡ directory (geo g) (sectorsOf g image)
   pub inside : Inside g (w .at)
 
 -- a step of a walk to sector n, with v left to walk
-pub record Met (g : Geometry) (image : List ℕ) (w : Walk) (n : ℕ) (v : Walk) : Type 0 where
+pub record Met (g : Geometry) (image : List ℕ) (w : Cursor) (n : ℕ) (v : Cursor) : Type 0 where
   pub next : restOf g image w ≡ n ∷ restOf g image v
   pub on-disc : n < g .sectors
   pub inside : Inside g (v .at)
 
 -- the step that a walk makes
-abbrev pub Stepped : Geometry → List ℕ → Walk → Step → Type 0
+abbrev pub Stepped : Geometry → List ℕ → Cursor → Step → Type 0
 Stepped g image w (Sector n v) = Met g image w (n .0) v
 Stepped g image w End = restOf g image w ≡ []
 
@@ -64,14 +68,3 @@ Within g Nothing = Unit {0}
 pub record Finds (g : Geometry) (image : List ℕ) (r : Found) (s : Option Slot) : Type 0 where
   pub slot : foundOf (sectorsOf g image) r ≡ s
   pub within : Within g r
-
--- ---- an entry
-
--- what the entry in slot s says
-pub record EntryIs (g : Geometry) (e : Entry) (s : Slot) : Type 0 where
-  pub length-is : e .length ≡ lengthOf s
-  pub first-is : meaning (e .first) ≡ firstOf (geo g) s
-  pub last-is : meaning (e .last) ≡ lastOf (geo g) s
-  pub attribute-is : e .attribute ≡ attributeOf s
-  pub first-inside : Inside g (e .first)
-  pub last-inside : Inside g (e .last)

@@ -1,40 +1,42 @@
-// The directory of a disc image: the walk along its sectors, the entry of a name, the first free slot, and what an entry
-// says of its file. All of it is read as it stands, on unsound images too.
-use disc::Geometry;
+// The directory of a disc image: the walk along its sectors, the entry of a name, the first free slot. All of it is read as it stands, on
+// unsound images too.
 use disc::Link;
-use disc::SectorNo;
+use geometry::Geometry;
+use geometry::SectorNo;
 use names::Name;
 ghost use mathlib.Core.Path.{_≡_};
 ghost use mathlib.Core.Bool.{true};
 ghost use Prim.Native.Nat.{_<_};
-ghost use Rattle.format.specs.Lists.{lastOr};
+ghost use Rattle.lists.specs.Lists.{lastOr};
 ghost use Rattle.format.specs.Names.{legalStored};
 ghost use Rattle.format.specs.Layout.{slotsEach, slotAt, slotsAt, slots, directory, find, openSlot};
-ghost use Rattle.disc.specs.Meaning.{geo, sectorsOf, Inside, Image};
-ghost use Rattle.directory.specs.Meaning.{Started, Stepped, wantedOf, firstThat, Finds, EntryIs};
+ghost use Rattle.geometry.specs.Meaning.{geo, sectorsOf, Image};
+ghost use Rattle.disc.specs.Meaning.{Inside};
+ghost use Rattle.directory.specs.Meaning.{Started, Stepped, wantedOf, firstThat, Finds};
 
-// A walk along the directory: the link to follow, and how many sectors it may still meet.
-pub struct Walk {
+// How far a walk along the directory has come: the link to follow, and how many sectors it may still meet.
+pub struct Cursor {
     pub at: Link,
     pub left: usize,
 }
 
+// The next sector of a walk, with what is left to walk; or its end.
 pub enum Step {
-    Sector(SectorNo, Walk),
+    Sector(SectorNo, Cursor),
     End,
 }
 
-pub fn start(image: &[u8], g: Geometry) -> Walk
+pub fn start(image: &[u8], g: Geometry) -> Cursor
     requires { ⌜ Image g (now image) ⌝ }
     ensures { λ r. ⌜ Started g (now (image .entry)) r ⌝ }
 {
-    Walk {
-        at: disc::pair_of(image, g, SectorNo(0), 0x12),
+    Cursor {
+        at: system::directory_pointer(image, g),
         left: g.sectors,
     }
 }
 
-pub fn advance(image: &[u8], g: Geometry, w: Walk) -> Step
+pub fn advance(image: &[u8], g: Geometry, w: Cursor) -> Step
     requires { ⌜ Image g (now image) × Inside g (w .at) ⌝ }
     ensures { λ r. ⌜ Stepped g (now (image .entry)) w r ⌝ }
 {
@@ -46,7 +48,7 @@ pub fn advance(image: &[u8], g: Geometry, w: Walk) -> Step
     match at {
         Link::To(n) => Step::Sector(
             n,
-            Walk {
+            Cursor {
                 at: disc::link_of(image, g, n),
                 left: left - 1,
             },
@@ -56,7 +58,7 @@ pub fn advance(image: &[u8], g: Geometry, w: Walk) -> Step
     }
 }
 
-// The place of a slot: its directory sector, and its index there.
+// Where a slot stands: its directory sector, and its index there.
 pub enum Found {
     At(SectorNo, usize),
     Nothing,
@@ -85,7 +87,7 @@ fn search_sector(image: &[u8], g: Geometry, n: SectorNo, w: Wanted) -> Found
     ensures { λ r. ⌜ Finds g (now (image .entry)) r (firstThat (wantedOf w) (slotsAt (sectorsOf g (now (image .entry))) (n .0))) ⌝ }
 {
     let mut i: usize = 0;
-    while i < 15 {
+    while i < slots::SLOTS {
         if is_wanted(image, g, n, i, w) {
             return Found::At(n, i);
         }
@@ -144,26 +146,5 @@ pub fn last_sector(image: &[u8], g: Geometry) -> SectorNo
         };
         last = n;
         rest = after;
-    }
-}
-
-// What an entry says of its file.
-pub struct Entry {
-    pub length: u16,
-    pub first: Link,
-    pub last: Link,
-    pub attribute: u8,
-}
-
-pub fn entry_of(image: &[u8], g: Geometry, n: SectorNo, i: usize) -> Entry
-    requires { ⌜ Image g (now image) × (n .0 < g .sectors) × (i < slotsEach) ⌝ }
-    ensures { λ r. ⌜ EntryIs g r (slotAt (sectorsOf g (now (image .entry))) (n .0) i) ⌝ }
-{
-    let k = slots::slot_start(i);
-    Entry {
-        length: disc::word_of(image, g, n, k + 9),
-        first: disc::pair_of(image, g, n, k + 11),
-        last: disc::pair_of(image, g, n, k + 13),
-        attribute: disc::byte_of(image, g, n, k + 15),
     }
 }

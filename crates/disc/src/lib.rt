@@ -1,161 +1,15 @@
-// The sectors of a disc image: their numbers, and their bytes, words, links and pairs, read and written where they lie.
-// A caller makes the geometry once, from what is stated of the image and its length. Only `geometry_of` and the functions between (track,
-// sector) and number know how many sectors a track has, and only `start_of` and `sector_at` where an image has a sector; everything else
-// is bounded by the number of all sectors.
+// The sectors of a disc image: their bytes, words, links and pairs, read and written where they lie.
+use geometry::Geometry;
+use geometry::SectorNo;
 ghost use mathlib.Core.Path.{_≡_};
 ghost use Prim.Native.Nat.{_+_, _*_, _%_, _≤_, _<_};
 ghost use mathlib.Core.Bool.{true};
 ghost use lib.ListN.{length, set};
-ghost use Rattle.format.specs.Lists.{byte, wordAt};
+ghost use Rattle.lists.specs.Lists.{byte, wordAt};
 ghost use Rattle.format.specs.Geometry.{onDisc, sectorNumber, pointed, sector, trackOf, sectorOf};
 ghost use Rattle.format.specs.Layout.{linkPlace, linkOf, pairAt, trackByte, sectorByte, linkBytes};
-ghost use Rattle.disc.specs.Meaning.{known, wholeTracks, geo, placesOf, placeIn, sizedAs, meaning, sectorsOf, storedAt, Valid, Inside, Image, Starts, Lies, led, Reaches};
-
-// A sector's number on the disc: not a byte position, and not a pair of track and sector.
-pub struct SectorNo(pub usize);
-
-// What a caller states of an image: the sectors of a track, 9 or 10, and the arrangement, 0 for plain or 1 for moved.
-pub struct Stated {
-    pub sectors: u32,
-    pub arrangement: u32,
-}
-
-// One side of a disc: its tracks, the sectors of a track, the sectors in all, and the arrangement of its image: the number stated, and
-// the places of a track's sectors 1 to 10, four bits each from the thirteenth bit on. So a sector's start takes no branch and no search.
-pub struct Geometry {
-    pub tracks: usize,
-    pub per_track: usize,
-    pub sectors: usize,
-    pub arrangement: u32,
-    pub places: u64,
-}
-
-// The geometry of an image, or that there is no such disc.
-pub enum Sized {
-    Of(Geometry),
-    Wrong,
-}
-
-// Sectors of a track, and of a track of the early discs.
-const TEN: usize = 10;
-
-pub const NINE: usize = 9;
-
-// The sectors of a track in the order in which the chain of a blank disc passes them.
-pub const ORDER: [u8; 10] = [1, 4, 7, 10, 3, 6, 9, 2, 5, 8];
-
-// The places of sectors in the order of their numbers.
-const PLAIN_PLACES: u64 = 0x9876543210000;
-
-// The places of sectors in passing order.
-fn moved_places() -> u64
-    ensures { λ r. ⌜ r ≡ placesOf 1 ⌝ }
-{
-    let mut places: u64 = 0;
-    let mut i: usize = 0;
-    while i < 10 {
-        places += (i as u64) << (4 * ORDER[i] as u64 + 8);
-        i += 1;
-    }
-    places
-}
-
-fn places_of(arrangement: u32) -> u64
-    requires { ⌜ arrangement ≤ 1 ⌝ }
-    ensures { λ r. ⌜ r ≡ placesOf arrangement ⌝ }
-{
-    if arrangement == 1 {
-        return moved_places();
-    }
-    PLAIN_PLACES
-}
-
-// There are discs of ten sectors a track, plain and moved, and of nine, plain alone.
-fn is_known(stated: Stated) -> bool
-    ensures { λ r. ⌜ r ≡ known stated ⌝ }
-{
-    if stated.sectors == 10 {
-        return stated.arrangement <= 1;
-    }
-    if stated.arrangement != 0 {
-        return false;
-    }
-    stated.sectors == 9
-}
-
-// The tracks in a length, or 0 where it is not one of whole tracks. By constants, since dividing by the number stated would cost as much
-// as the rest.
-fn tracks_in(length: usize, sectors: usize) -> usize
-    requires { ⌜ (9 ≤ sectors) × (sectors ≤ 10) ⌝ }
-    ensures { λ r. ⌜ r ≡ wholeTracks sectors length ⌝ }
-{
-    if sectors == NINE {
-        if length % (256 * NINE) != 0 {
-            return 0;
-        }
-        return length / (256 * NINE);
-    }
-    if length % (256 * TEN) != 0 {
-        return 0;
-    }
-    length / (256 * TEN)
-}
-
-pub fn geometry_of(stated: Stated, length: usize) -> Sized
-    ensures { λ r. ⌜ r ≡ sizedAs stated length ⌝ }
-{
-    if !is_known(stated) {
-        return Sized::Wrong;
-    }
-    let per_track = stated.sectors as usize;
-    let tracks = tracks_in(length, per_track);
-    if tracks < 1 {
-        return Sized::Wrong;
-    }
-    if 80 < tracks {
-        return Sized::Wrong;
-    }
-    let arrangement = stated.arrangement;
-    Sized::Of(Geometry {
-        tracks,
-        per_track,
-        sectors: per_track * tracks,
-        arrangement,
-        places: places_of(arrangement),
-    })
-}
-
-pub fn on_disc(g: Geometry, track: usize, sector: usize) -> bool
-    ensures { λ r. ⌜ r ≡ onDisc (geo g) track sector ⌝ }
-{
-    track < g.tracks && 1 <= sector && sector <= g.per_track
-}
-
-pub fn number_of(g: Geometry, track: usize, sector: usize) -> SectorNo
-    requires { ⌜ Valid g × (onDisc (geo g) track sector ≡ true) ⌝ }
-    ensures { λ r. ⌜ r .0 ≡ sectorNumber (geo g) track sector ⌝ }
-{
-    SectorNo(g.per_track * track + sector - 1)
-}
-
-// Where a sector starts on its track. Of the bits shifted down, those above the lowest eight are its place: they stand where 256 times the
-// place has them.
-pub fn offset_of(g: Geometry, sector: usize) -> usize
-    requires { ⌜ Valid g × (1 ≤ sector) × (sector ≤ 10) ⌝ }
-    ensures { λ p. ⌜ (p ≡ 256 * placeIn (g .arrangement) sector) × (p < 2560) ⌝ }
-{
-    ((g.places >> (4 * sector as u64)) / 256 % 16 * 256) as usize
-}
-
-// The byte position of a sector in its image. By a constant, since dividing by the geometry's number would cost as much as the rest; it
-// serves nine sectors a track as well, whose places are their numbers.
-pub fn start_of(g: Geometry, n: SectorNo) -> usize
-    requires { ⌜ Valid g × (n .0 < g .sectors) ⌝ }
-    ensures { λ r. ⌜ Starts g (n .0) r ⌝ }
-{
-    let number = n.0;
-    256 * TEN * (number / TEN) + offset_of(g, number % TEN + 1)
-}
+ghost use Rattle.geometry.specs.Meaning.{geo, sectorsOf, Valid, Image};
+ghost use Rattle.disc.specs.Meaning.{meaning, storedAt, Inside, Lies, led, Reaches};
 
 // A sector, and where it starts in the image: for several bytes of one sector, and for the way along a chain.
 pub struct Sector {
@@ -169,7 +23,7 @@ pub fn sector_of(g: Geometry, n: SectorNo) -> Sector
 {
     Sector {
         number: n,
-        start: start_of(g, n),
+        start: geometry::start_of(g, n),
     }
 }
 
@@ -178,9 +32,9 @@ pub fn sector_at(g: Geometry, track: usize, sector: usize) -> Sector
     requires { ⌜ Valid g × (onDisc (geo g) track sector ≡ true) ⌝ }
     ensures { λ r. ⌜ (r .number .0 ≡ sectorNumber (geo g) track sector) × Lies g r ⌝ }
 {
-    let number = number_of(g, track, sector);
+    let number = geometry::number_of(g, track, sector);
     let per_track = g.per_track;
-    let offset = offset_of(g, sector);
+    let offset = geometry::offset_of(g, sector);
     Sector {
         number,
         start: 256 * (per_track * track) + offset,
@@ -203,7 +57,7 @@ fn step_at(g: Geometry, track: u8, sector: u8) -> Step
     }
     let t = track as usize;
     let s = sector as usize;
-    if on_disc(g, t, s) {
+    if geometry::on_disc(g, t, s) {
         return Step::To(sector_at(g, t, s));
     }
     Step::Off
@@ -247,7 +101,7 @@ pub fn step_of(image: &[u8], g: Geometry, n: SectorNo, k: usize) -> Step
     requires { ⌜ Image g (now image) × (n .0 < g .sectors) × (k + 1 < 256) ⌝ }
     ensures { λ r. ⌜ (led r ≡ pairAt (geo g) (sector (sectorsOf g (now (image .entry))) (n .0)) k) × Reaches g r ⌝ }
 {
-    let at = start_of(g, n) + k;
+    let at = geometry::start_of(g, n) + k;
     step_at(g, image[at + 1], image[at])
 }
 
@@ -265,7 +119,7 @@ pub fn byte_of(image: &[u8], g: Geometry, n: SectorNo, k: usize) -> u8
     requires { ⌜ Image g (now image) × (n .0 < g .sectors) × (k < 256) ⌝ }
     ensures { λ r. ⌜ r ≡ byte (sector (sectorsOf g (now (image .entry))) (n .0)) k ⌝ }
 {
-    image[start_of(g, n) + k]
+    image[geometry::start_of(g, n) + k]
 }
 
 // Byte k of a sector whose start is known.
@@ -282,7 +136,7 @@ pub fn word_of(image: &[u8], g: Geometry, n: SectorNo, k: usize) -> u16
     requires { ⌜ Image g (now image) × (n .0 < g .sectors) × (k + 1 < 256) ⌝ }
     ensures { λ r. ⌜ r ≡ wordAt (sector (sectorsOf g (now (image .entry))) (n .0)) k ⌝ }
 {
-    let at = start_of(g, n) + k;
+    let at = geometry::start_of(g, n) + k;
     bytes::word(image[at], image[at + 1])
 }
 
@@ -291,7 +145,7 @@ pub fn link_of(image: &[u8], g: Geometry, n: SectorNo) -> Link
     requires { ⌜ Image g (now image) × (n .0 < g .sectors) ⌝ }
     ensures { λ r. ⌜ meaning r ≡ linkOf (geo g) (sector (sectorsOf g (now (image .entry))) (n .0)) ⌝ }
 {
-    let start = start_of(g, n);
+    let start = geometry::start_of(g, n);
     pointed_at(g, image[start], image[start + 1])
 }
 
@@ -300,7 +154,7 @@ pub fn pair_of(image: &[u8], g: Geometry, n: SectorNo, k: usize) -> Link
     requires { ⌜ Image g (now image) × (n .0 < g .sectors) × (k + 1 < 256) ⌝ }
     ensures { λ r. ⌜ meaning r ≡ pairAt (geo g) (sector (sectorsOf g (now (image .entry))) (n .0)) k ⌝ }
 {
-    let at = start_of(g, n) + k;
+    let at = geometry::start_of(g, n) + k;
     pointed_at(g, image[at + 1], image[at])
 }
 
@@ -317,12 +171,7 @@ pub fn put_in(image: &mut [u8], g: Geometry, s: Sector, k: usize, from: &[u8])
     requires { ⌜ Image g (now image) × Lies g s × (k + length (now from) ≤ 256) ⌝ }
     ensures { λ _. ⌜ sectorsOf g (now (image .exit)) ≡ storedAt (sectorsOf g (now (image .entry))) (s .number .0) k (now (from .entry)) ⌝ }
 {
-    let start = s.start + k;
-    let mut i: usize = 0;
-    while i < from.len() {
-        image[start + i] = from[i];
-        i += 1;
-    }
+    bytes::copy(image, s.start + k, from);
 }
 
 // Writes the whole of sector n.

@@ -11,7 +11,8 @@ use lib.ListN.{length, take, drop}
 use lib.Seq.{drop-drop}
 use lib.Dec.{eqb, ltb, leb}
 use borrow.Author.Tests.{ltb-true, lt-ltb, ltb-false, not-false, le-leb}
-use Rattle.format.specs.ListLaws.{drop-take}
+use Rattle.lists.specs.Lists.{isSome}
+use Rattle.lists.specs.ListLaws.{drop-take}
 use Rattle.format.specs.Refusals.{Try, Refusal, UNSOUND, ROOM, refused, ok, _>>=_, _>>_, refuse_if_, number, valueOr, IsOk}
 use Rattle.format.specs.RefusalLaws.{ok-is, if-ok, or-ok, then-ok, never-if, never-or}
 use Rattle.format.specs.Geometry.{Format, Geometry, geometry, sectors, sectorNumber, startOf, onDisc, Disc, cut, sector, bytesOf, Write}
@@ -22,8 +23,8 @@ use Rattle.format.specs.Layout.{namePlace, attributePlace, Slot, attribu
 use Rattle.format.specs.Check.{filesHold, broken, sound}
 use Rattle.format.specs.CheckLaws.{RulesTo5, hold-reported, rules-hold, hold-rules}
 use Rattle.format.specs.Modules.{Module, allowed}
-use Rattle.format.specs.Effects.{isSome, body, slotWrite, needed, saveWrites, deleteWrites, reading, listing, repairWrites}
-use Rattle.format.specs.Calls.{listOn, readOn, saveBeforeOn, saveOn, deleteOn, renameOn, protectOn, repairOn, view, partBy, viewPart}
+use Rattle.format.specs.Effects.{body, slotWrite, needed, saveWrites, deleteWrites, repairWrites}
+use Rattle.format.specs.Calls.{saveBeforeOn, saveOn, deleteOn, renameOn, protectOn, repairOn, view, partBy, viewPart}
 
 none-of : {A : Type 0} (o : Option A) → isSome o ≡ false → o ≡ none
 none-of none e = refl
@@ -32,39 +33,6 @@ none-of (some a) e = absurd (true≢false e)
 -- ---- what an accepted call has passed
 
 module _ (G : Geometry) (d : Disc) where
-  pub record Listed (room : ℕ) (records : List ℕ) : Type 0 where
-    pub checked : sound G d ≡ true
-    pub fits : length records ≤ room
-    pub is : listing G d ≡ records
-
-  pub list-ok : (room : ℕ) (records : List ℕ) → listOn G d room ≡ ok records → Listed room records
-  unfolding listOn
-  list-ok room records p =
-      let a = if-ok _ _ _ p in
-      let b = if-ok _ _ _ (a .1) in
-      let e : listing G d ≡ records = ok-is (b .1) in
-      record { checked = not-false _ (a .0); fits = omega (arith, ltb-false room _ (b .0), ap length e); is = e }
-
-  pub record Read (name : List ℕ) (room : ℕ) (m : Module) : Type 0 where
-    pub nine : List ℕ
-    pub s : Slot
-    pub typed : stored name ≡ some nine
-    pub checked : sound G d ≡ true
-    pub found : find G d nine ≡ some s
-    pub plainly : reading G d s ≡ some m
-    pub fits : length (m .bytes) ≤ room
-
-  pub read-ok : (name : List ℕ) (room : ℕ) (m : Module) → readOn G d name room ≡ ok m → Read name room m
-  unfolding readOn
-  read-ok name room m p =
-      let a = or-ok _ (stored name) _ p in
-      let b = if-ok _ _ _ (a .2) in
-      let c = or-ok _ (find G d (a .0)) _ (b .1) in
-      let f = or-ok _ (reading G d (c .0)) _ (c .2) in
-      let g = if-ok _ _ _ (f .2) in
-      let e : f .0 ≡ m = ok-is (g .1) in
-      record { nine = a .0; s = c .0; typed = a .1; checked = not-false _ (b .0); found = c .1; plainly = f .1 ∙ ap some e; fits = omega (arith, ltb-false room _ (g .0), ap (λ (m : Module). length (m .bytes)) e) }
-
   pub record Saved (name : List ℕ) (m : Module) (ws : List Write) : Type 0 where
     pub nine : List ℕ
     pub typed : stored name ≡ some nine
@@ -84,7 +52,15 @@ module _ (G : Geometry) (d : Disc) where
       let e = if-ok _ _ _ (c .1) in
       let r = if-ok _ _ _ (q .2) in
       let n : a .0 ≡ q .0 = ok-is (e .1) in
-      record { nine = a .0; typed = a .1; fits = not-false _ (b .0); checked = not-false _ (c .0); absent = none-of _ (e .0); room = ltb-false _ _ (r .0); writes = ap (λ (x : List ℕ). saveWrites G d x m) n ∙ ok-is (r .1) }
+      record {
+        nine = a .0;
+        typed = a .1;
+        fits = not-false _ (b .0);
+        checked = not-false _ (c .0);
+        absent = none-of _ (e .0);
+        room = ltb-false _ _ (r .0);
+        writes = ap (λ (x : List ℕ). saveWrites G d x m) n ∙ ok-is (r .1);
+      }
 
   pub record Deleted (name : List ℕ) (ws : List Write) : Type 0 where
     pub nine : List ℕ
@@ -125,7 +101,18 @@ module _ (G : Geometry) (d : Disc) where
       let c = or-ok _ (find G d (a .0)) _ (b .1) in
       let e = if-ok _ _ _ (c .2) in
       let f = if-ok _ _ _ (e .1) in
-      record { nine = a .0; nine′ = a′ .0; s = c .0; typed = a .1; typed′ = a′ .1; checked = not-false _ (b .0); found = c .1; unprotected = e .0; absent = none-of _ (f .0); writes = ok-is (f .1) }
+      record {
+        nine = a .0;
+        nine′ = a′ .0;
+        s = c .0;
+        typed = a .1;
+        typed′ = a′ .1;
+        checked = not-false _ (b .0);
+        found = c .1;
+        unprotected = e .0;
+        absent = none-of _ (f .0);
+        writes = ok-is (f .1);
+      }
 
   pub record Protected (name : List ℕ) (on : ℕ) (ws : List Write) : Type 0 where
     pub nine : List ℕ
@@ -164,7 +151,8 @@ last-8 (ok nine) a b ws n = (λ h. (tt, tested (ltb a b) refl h), λ h. ap (λ (
 pub room-exact : (G : Geometry) (d : Disc) (name : List ℕ) (m : Module)
     → (number (saveOn G d name m) ≡ 8) ↔ (IsOk (saveBeforeOn G d name m) × (length (free G d) < needed G d (length (m .bytes))))
 unfolding saveOn
-room-exact G d name m = last-8 (saveBeforeOn G d name m) (length (free G d)) (needed G d (length (m .bytes))) (λ nine. saveWrites G d nine m) (never-8 G d name m)
+room-exact G d name m =
+    last-8 (saveBeforeOn G d name m) (length (free G d)) (needed G d (length (m .bytes))) (λ nine. saveWrites G d nine m) (never-8 G d name m)
 
 -- ---- when a repair is refused
 

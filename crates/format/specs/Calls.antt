@@ -7,14 +7,15 @@ use mathlib.Core.Bool.{not}
 use mathlib.Core.List.{List, [], _∷_}
 use lib.ListN.{length}
 use lib.Dec.{eqb, ltb}
-use Rattle.format.specs.Lists.{front}
-use Rattle.format.specs.Refusals.{Try, Refusal, NAME, UNSOUND, ABSENT, TAKEN, PROTECTED, MODULE, ROOM, NOT-PLAIN, SHORT, NO-SECTOR, BAD-LIST, numberOf, refused, ok, _>>=_, _>>_, refuse_if_, _orRefuse_, number, valueOr}
+use Rattle.lists.specs.Lists.{isSome, front}
+use Rattle.format.specs.Refusals.{Try, Refusal, NAME, UNSOUND, ABSENT, TAKEN, PROTECTED, MODULE, ROOM, NOT-PLAIN, SHORT, NO-SECTOR}
+use Rattle.format.specs.Refusals.{BAD-LIST, numberOf, refused, ok, _>>=_, _>>_, refuse_if_, _orRefuse_, number, valueOr}
 use Rattle.format.specs.Geometry.{Format, Geometry, geometry, sectorNumber, onDisc, Disc, cut, flat, Part, bodyPart, Write, written}
 use Rattle.format.specs.Names.{stored, discName}
 use Rattle.format.specs.Layout.{namePlace, attributePlace, attributeOf, isProtected, protectedAs, free, find}
 use Rattle.format.specs.Check.{filesHold, broken, sound}
 use Rattle.format.specs.Modules.{Module, endOf, allowed}
-use Rattle.format.specs.Effects.{isSome, slotWrite, needed, saveWrites, deleteWrites, reading, listing, blankDisc, repairWrites}
+use Rattle.format.specs.Effects.{slotWrite, needed, saveWrites, deleteWrites, reading, listing, blankDisc, repairWrites}
 use Rattle.format.specs.Writes.{writeList, held}
 
 -- ---- the refusals in their order, after 1, on a disc

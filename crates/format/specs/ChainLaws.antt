@@ -10,8 +10,8 @@ use native.Mathlib.Numerals.{sub-one}
 use mathlib.Core.Bool.{true, false, false≢true}
 use mathlib.Core.List.{List, [], _∷_, _++_}
 use lib.ListN.{length}
-use Rattle.format.specs.Lists.{times, lastOr, byte}
-use Rattle.format.specs.ListLaws.{All, done, _also_, times-none, times-here, times-past, last-in}
+use Rattle.lists.specs.Lists.{times, lastOr, byte}
+use Rattle.lists.specs.ListLaws.{All, done, _also_, times-none, times-here, times-past, last-in}
 use Rattle.format.specs.Geometry.{Geometry, sectors, Next, stop, go, off, Disc, sector}
 use Rattle.format.specs.GeometryLaws.{OnDisc, pointed-on, pointed-only, pointed-none}
 use Rattle.format.specs.Layout.{linkPlace, linkOf, met, ends}
@@ -51,11 +51,6 @@ module _ (G : Geometry) (d : Disc) where
   pub ends-none : (n : ℕ) → ends G d 0 (go n) ≡ false
   unfolding ends
   ends-none n = refl
-
-  pub ends-go : (k n : ℕ) → 0 < k → ends G d k (go n) ≡ ends G d (k - 1) (linkOf G (sector d n))
-  unfolding ends
-  ends-go zero n h = absurd (not-suc-le-zero h)
-  ends-go (suc k) n h = ap (λ (j : ℕ). ends G d j (linkOf G (sector d n))) (sym (sub-one (suc k)))
 
   pub met-few : (k : ℕ) (p : Next) → length (met G d k p) ≤ k
   unfolding met

@@ -6,10 +6,11 @@ use mathlib.Core.Bool.{Bool, true, false, not, _&&_}
 use mathlib.Core.List.{List, [], _∷_, _++_, map}
 use lib.ListN.{length}
 use lib.Dec.{eqb, leb}
-use Rattle.format.specs.Lists.{byte, all, any, elem, distinct, same, range, sum, lastOr}
+use Rattle.lists.specs.Lists.{byte, all, any, elem, distinct, same, range, sum, lastOr}
 use Rattle.format.specs.Refusals.{Try, refused, ok, _>>_, refuse_if_}
 use Rattle.format.specs.Geometry.{Geometry, sectors, Next, stop, go, off, Disc, sector}
-use Rattle.format.specs.Layout.{inUsePlace, Slot, inUse, nameOf, lengthOf, attributeOf, isAttribute, slotsAt, usedCount, freeCount, chainEnds, directoryPointer, freePointer, directory, free, entries, firstOf, lastOf, fileChain, fileSectors, places}
+use Rattle.format.specs.Layout.{inUsePlace, Slot, inUse, nameOf, lengthOf, attributeOf, isAttribute, slotsAt, usedCount, freeCount, chainEnds}
+use Rattle.format.specs.Layout.{directoryPointer, freePointer, directory, free, entries, firstOf, lastOf, fileChain, fileSectors, places}
 use Rattle.format.specs.Names.{legalStored}
 
 -- the number of the rule that a run of tests stopped at, or 0

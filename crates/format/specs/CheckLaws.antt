@@ -3,9 +3,10 @@
 use mathlib.Core.Path.{_≡_, refl}
 use Prim.Native.Nat.{ℕ, _<_}
 use native.Mathlib.Omega.{arith}
-use mathlib.Core.Bool.{Bool, true, false, not, _&&_, false≢true}
+use mathlib.Core.Bool.{Bool, true, false, not, _&&_}
 use lib.Dec.{leb}
 use borrow.Author.Tests.{eqb-true}
+use Rattle.lists.specs.ListLaws.{and-true}
 use Rattle.format.specs.Refusals.{Try, refuse_if_, _>>_}
 use Rattle.format.specs.Geometry.{Geometry, Disc}
 use Rattle.format.specs.Check.{lowest, rule1, rule2, rule3, rule4, rule5, filesHold, rule6, rule7, rule8, broken, sound}
@@ -108,10 +109,6 @@ lowest-five true true true true true true false h = refl
 lowest-five true true true true true true true false = refl
 lowest-five true true true true true true true true = refl
 
-and-both : (a b : Bool) → a && b ≡ true → (a ≡ true) × (b ≡ true)
-and-both true b e = (refl, e)
-and-both false b e = absurd (false≢true e)
-
 module _ (G : Geometry) (d : Disc) where
   -- they hold exactly where the check reports none of them
   pub hold-reported : filesHold G d ≡ not (leb 1 (broken G d) && leb (broken G d) 5)
@@ -125,8 +122,8 @@ module _ (G : Geometry) (d : Disc) where
   pub hold-rules : filesHold G d ≡ true → RulesTo5 G d
   unfolding filesHold
   hold-rules e =
-      let h4 = and-both _ _ e in
-      let h3 = and-both _ _ (h4 .0) in
-      let h2 = and-both _ _ (h3 .0) in
-      let h1 = and-both _ _ (h2 .0) in
+      let h4 = and-true _ _ e in
+      let h3 = and-true _ _ (h4 .0) in
+      let h2 = and-true _ _ (h3 .0) in
+      let h1 = and-true _ _ (h2 .0) in
       record { r1 = h1 .0; r2 = h1 .1; r3 = h2 .1; r4 = h3 .1; r5 = h4 .1 }

@@ -2,22 +2,19 @@
 -- What a command writes is a list of whole sectors, each as it stands afterwards. Their order is request e's of document 02.
 -- Assumes nothing.
 use Prim.Native.Nat.{ℕ, _+_, _-_}
-use mathlib.Core.Bool.{Bool, true, false, not, cond}
+use mathlib.Core.Bool.{false, not, cond}
 use mathlib.Core.Option.{Option, none, some}
 use mathlib.Core.List.{List, [], _∷_, _++_, map}
 use lib.ListN.{length, take, drop, replicate}
 use lib.Seq.{sets}
-use Rattle.format.specs.Lists.{byte, word, filter, elem, range, joined, sum, lastOr}
+use Rattle.lists.specs.Lists.{isSome, byte, word, filter, elem, range, joined, sum, lastOr}
 use Rattle.format.specs.Geometry.{Geometry, sectors, sectorNumber, Next, stop, go, Disc, sector, Write, written}
-use Rattle.format.specs.Layout.{freePlace, directoryPlace, freeCountPlace, discNamePlace, versionPlace, linkPlace, inUsePlace, system, freeCount, usedCount, discNameOf, attribute, Slot, slotStart, emptySlot, nameOf, lengthOf, attributeOf, linkOf, linkBytes, pairBytes, freePointer, directory, free, entries, openSlot, firstOf, fileChain, fileSectors}
+use Rattle.format.specs.Layout.{freePlace, directoryPlace, freeCountPlace, discNamePlace, versionPlace, linkPlace, inUsePlace, system}
+use Rattle.format.specs.Layout.{freeCount, usedCount, discNameOf, attribute, Slot, slotStart, emptySlot, nameOf, lengthOf, attributeOf, linkOf}
+use Rattle.format.specs.Layout.{linkBytes, pairBytes, freePointer, directory, free, entries, openSlot, firstOf, fileChain, fileSectors}
 use Rattle.format.specs.Modules.{Module, sectorsFor, bodies, plain}
 
 -- ---- parts of sectors
-
--- whether there is a value
-abbrev pub isSome : {A : Type 0} → Option A → Bool
-isSome none = false
-isSome (some a) = true
 
 -- the bytes after a sector's link
 abbrev pub body : List ℕ → List ℕ

@@ -6,17 +6,18 @@ use mathlib.Core.Logic.{_≢_}
 use Prim.Native.Nat.{ℕ, suc, _*_, _/_, _≤_, _<_}
 use native.Mathlib.Omega.{arith}
 use native.Mathlib.Nat.{mul-assoc, mul-div-cancel-left, div-add-mod}
-use mathlib.Core.Bool.{Bool, true, false, _&&_, cond}
+use mathlib.Core.Bool.{Bool, true, false, _&&_, cond, and-false}
 use mathlib.Core.List.{List, [], _∷_, _++_}
 use lib.ListN.{length, getD, take, drop, take-append-drop}
 use lib.Dec.{eqb}
 use borrow.Author.Tests.{ne-eqb}
-use Rattle.format.specs.Lists.{Once}
-use Rattle.format.specs.ListLaws.{and-false, All, head-of, tail-of, all-getD, once-length, once-inside}
+use Rattle.lists.specs.Lists.{Once}
+use Rattle.lists.specs.ListLaws.{All, head-of, tail-of, all-getD, once-length, once-inside}
+use Rattle.lists.specs.Counts.{in-order-once, permutes-once}
 use Rattle.format.specs.Refusals.{ok}
 use Rattle.format.specs.RefusalLaws.{refused-ok}
 use Rattle.format.specs.Geometry.{Format, ten, tenMoved, nine, unknown, stated, Geometry, tracked, geometry}
-use Rattle.format.specs.Arrangements.{in-order-once, permutes-once, Arranged}
+use Rattle.format.specs.Arrangements.{Arranged}
 use Rattle.format.specs.GeometryLaws.{no-disc, ImageOf, geometry-ok, geometry-done}
 
 -- What the facts ask of a kind of disc: that 80 tracks have "at most 800 sectors", that an image has each sector of a track at one place, and that the

@@ -6,7 +6,7 @@ use mathlib.Core.Bool.{Bool, not, _&&_, cond}
 use mathlib.Core.List.{List, [], _∷_, map}
 use lib.ListN.{getD, set, take, drop}
 use lib.Dec.{eqb, leb, ltb}
-use Rattle.format.specs.Lists.{range, joined, indexOf}
+use Rattle.lists.specs.Lists.{range, joined, indexOf}
 use Rattle.format.specs.Refusals.{Try, Refusal, SIZE, ok, refuse_if_, _>>_}
 
 -- ---- tracks and sectors

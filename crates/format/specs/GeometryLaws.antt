@@ -11,14 +11,18 @@ use mathlib.Core.Bool.{Bool, true, false, not, _&&_, cond}
 use mathlib.Core.List.{List, [], _∷_, _++_, map}
 use lib.ListN.{length, getD, set, take, drop, length-set, length-append, length-drop, take-append-drop}
 use lib.Dec.{eqb, leb, ltb}
-use lib.Seq.{sets, getD-set-other, getD-set-same, take-set-lt, take-set-le, drop-set-lt, drop-set-add, getD-drop, getD-take, take-at, drop-at, drop-drop, length-take-le, set-getD, set-set}
-use borrow.Author.Tests.{eq-eqb, ne-eqb, lt-ltb, le-ltb, le-leb, lt-leb, ltb-true, leb-true, eqb-true, not-false}
-use Rattle.format.specs.Lists.{joined, times, range, indexOf}
-use Rattle.format.specs.ListLaws.{and-true, All, done, _also_, all-getD, all-set, times-here, times-past}
+use lib.Seq.{sets, getD-set-other, getD-set-same, take-set-lt, take-set-le, drop-set-lt, drop-set-add}
+use lib.Seq.{getD-drop, getD-take, take-at, drop-at, drop-drop, length-take-le, set-getD, set-set}
+use borrow.Author.Tests.{eq-eqb, ne-eqb, lt-ltb, le-leb, lt-leb, ltb-true, leb-true, eqb-true, not-false}
+use Rattle.lists.specs.Lists.{joined, times, range, indexOf}
+use Rattle.lists.specs.ListLaws.{and-true, All, done, _also_, all-getD, all-set, times-here, times-past}
+use Rattle.lists.specs.Indices.{index-below, at-index, element-times, index-at, index-range}
 use Rattle.format.specs.Refusals.{refused, ok, SIZE, refuse_if_, _>>_}
 use Rattle.format.specs.RefusalLaws.{if-ok, ok-is}
-use Rattle.format.specs.Geometry.{Format, arranged, unknown, Geometry, tracked, geometry, sectors, sectorNumber, startOf, onDisc, trackOf, sectorOf, placeOf, sectorAt, Next, stop, go, off, pointed, Disc, chunks, reordered, cut, flat, sector, Write, written}
-use Rattle.format.specs.Arrangements.{index-below, at-index, element-times, index-at, index-range, Arranged, arrangement-long, arranged-once, reordered-long, reordered-at, reordered-each, reordered-back, reordered-set}
+use Rattle.format.specs.Geometry.{Format, arranged, unknown, Geometry, tracked, geometry, sectors, sectorNumber, startOf, onDisc, trackOf, sectorOf}
+use Rattle.format.specs.Geometry.{placeOf, sectorAt, Next, stop, go, off, pointed, Disc, chunks, reordered, cut, flat, sector, Write, written}
+use Rattle.format.specs.Arrangements.{Arranged, arrangement-long, arranged-once, reordered-long}
+use Rattle.format.specs.Arrangements.{reordered-at, reordered-each, reordered-back, reordered-set}
 
 -- ---- the geometry of a length
 
@@ -54,7 +58,8 @@ pub geometry-none : (F : Format) (n : ℕ) → n % (256 * F .perTrack) ≡ 0 →
 unfolding geometry refuse_if_ _>>_
 geometry-none F n a b = simp (eq-eqb _ _ a, lt-leb 1 _ b)
 
-pub geometry-many : (F : Format) (n : ℕ) → n % (256 * F .perTrack) ≡ 0 → 1 ≤ n / (256 * F .perTrack) → 80 < n / (256 * F .perTrack) → geometry F n ≡ refused SIZE
+pub geometry-many : (F : Format) (n : ℕ) → n % (256 * F .perTrack) ≡ 0 → 1 ≤ n / (256 * F .perTrack) → 80 < n / (256 * F .perTrack)
+    → geometry F n ≡ refused SIZE
 unfolding geometry refuse_if_ _>>_
 geometry-many F n a b c = simp (eq-eqb _ _ a, le-leb 1 _ b, lt-leb _ 80 c)
 
@@ -74,15 +79,6 @@ module _ (G : Geometry) (t s : ℕ) where
   pub on-disc : t < G .tracks → 1 ≤ s → s ≤ G .perTrack → onDisc G t s ≡ true
   on-disc a b c = simp (lt-ltb t _ a, le-leb 1 s b, le-leb s _ c)
 
-  pub past-disc : G .tracks ≤ t → onDisc G t s ≡ false
-  past-disc a = simp (le-ltb t _ a)
-
-  pub zeroth-sector : t < G .tracks → s < 1 → onDisc G t s ≡ false
-  zeroth-sector a b = simp (lt-ltb t _ a, lt-leb 1 s b)
-
-  pub past-track : t < G .tracks → 1 ≤ s → G .perTrack < s → onDisc G t s ≡ false
-  past-track a b c = simp (lt-ltb t _ a, le-leb 1 s b, lt-leb s _ c)
-
   pub pointed-stop : s ≡ 0 → pointed G t s ≡ stop
   unfolding pointed
   pointed-stop h = simp (eq-eqb s 0 h)
@@ -90,15 +86,6 @@ module _ (G : Geometry) (t s : ℕ) where
   pub pointed-go : 0 < s → s ≤ G .perTrack → t < G .tracks → pointed G t s ≡ go (sectorNumber G t s)
   unfolding pointed
   pointed-go h k l = simp (ne-eqb s 0 (λ e. omega arith), on-disc l h k)
-
-  pub pointed-past : 0 < s → G .tracks ≤ t → pointed G t s ≡ off
-  unfolding pointed
-  pointed-past h k = simp (ne-eqb s 0 (λ e. omega arith), past-disc k)
-
-  pub pointed-high : 0 < s → G .perTrack < s → pointed G t s ≡ off
-  unfolding pointed
-  pointed-high h k =
-      elim (decLe (G .tracks) t) [ yes l ↦ pointed-past h l | no l ↦ simp (ne-eqb s 0 (λ e. omega arith), past-track (lt-of-not-le l) h k) ]
 
 -- what `onDisc` tests
 pub on-disc-is : (G : Geometry) (t s : ℕ) → onDisc G t s ≡ true → (t < G .tracks) × (1 ≤ s) × (s ≤ G .perTrack)
@@ -266,7 +253,8 @@ pointed-on G t s n e = case (eqb s 0) (ltb t (G .tracks)) (leb 1 s) (leb s (G .p
     case true b c f p q r e = let z : _≡_ {A = ℕ} 0 1 = cc in absurd (omega arith)
     case false true true true p q r e =
         let w : sectorNumber G t s ≡ n = cc in
-        subst (λ (k : ℕ). k < sectors G) w (number-below G (omega (arith, leb-true 1 s q, leb-true s _ r)) t s (ltb-true _ _ p) (leb-true 1 s q) (leb-true s _ r))
+        subst (λ (k : ℕ). k < sectors G) w
+        (number-below G (omega (arith, leb-true 1 s q, leb-true s _ r)) t s (ltb-true _ _ p) (leb-true 1 s q) (leb-true s _ r))
     case false true true false p q r e = let z : _≡_ {A = ℕ} 0 1 = cc in absurd (omega arith)
     case false true false f p q r e = let z : _≡_ {A = ℕ} 0 1 = cc in absurd (omega arith)
     case false false c f p q r e = let z : _≡_ {A = ℕ} 0 1 = cc in absurd (omega arith)

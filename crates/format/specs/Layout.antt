@@ -7,7 +7,7 @@ use mathlib.Core.Option.{Option}
 use mathlib.Core.List.{List, [], _∷_, _++_, map, head?}
 use lib.ListN.{take, drop, replicate}
 use lib.Dec.{eqb}
-use Rattle.format.specs.Lists.{byte, wordAt, filter, same, range, joined}
+use Rattle.lists.specs.Lists.{byte, wordAt, filter, same, range, joined}
 use Rattle.format.specs.Geometry.{Geometry, sectors, Next, stop, go, off, pointed, Disc, sector, trackOf, sectorOf}
 
 -- ---- where things stand in a sector

@@ -1,6 +1,3 @@
-pub mod Lists
-pub mod ListLaws
-pub mod Permutations
 pub mod Refusals
 pub mod RefusalLaws
 pub mod Geometry
@@ -13,6 +10,8 @@ pub mod Layout
 pub mod ChainLaws
 pub mod Check
 pub mod CheckLaws
+pub mod NameCounts
+pub mod RuleLaws
 pub mod Modules
 pub mod ModuleLaws
 pub mod Effects

@@ -11,8 +11,8 @@ use mathlib.Core.List.{List, [], _∷_, _++_, map}
 use lib.ListN.{length, take, drop, replicate, length-take, length-drop}
 use lib.Dec.{leb}
 use borrow.Author.Tests.{le-leb, lt-leb, leb-true, leb-false}
-use Rattle.format.specs.Lists.{joined, word, sameAll}
-use Rattle.format.specs.ListLaws.{and-true, true-and, All, done, _also_, sameAll-refl, sameAll-true, padded-long}
+use Rattle.lists.specs.Lists.{joined, word, sameAll}
+use Rattle.lists.specs.ListLaws.{and-true, true-and, All, done, _also_, sameAll-refl, sameAll-true, padded-long}
 use Rattle.format.specs.Modules.{Module, endOf, allowed, sectorsFor, laterBody, laterBodies, firstBody, bodies, guessed, plain}
 
 -- ---- refusal 7
@@ -71,7 +71,8 @@ later-many (suc n) xs = ap suc (later-many n (drop 253 xs))
 pub bodies-254 : (m : Module) → All (λ b. length b ≡ 254) (bodies m)
 unfolding bodies firstBody
 bodies-254 m =
-    padded-long 254 0 (0xFF ∷ m .page ∷ word (m .start) ++ word (endOf m) ++ word (m .transfer) ++ length (take 245 (m .bytes)) ∷ take 245 (m .bytes)) (omega (arith, length-take 245 (m .bytes)))
+    padded-long 254 0 (0xFF ∷ m .page ∷ word (m .start) ++ word (endOf m) ++ word (m .transfer) ++ length (take 245 (m .bytes)) ∷ take 245 (m .bytes))
+    (omega (arith, length-take 245 (m .bytes)))
     also later-254 _ (drop 245 (m .bytes))
 
 pub bodies-many : (m : Module) → length (bodies m) ≡ sectorsFor (length (m .bytes))
@@ -95,8 +96,9 @@ later zero [] h = refl
 later zero (x ∷ xs) h = absurd (omega arith)
 later (suc n) xs h =
     let rest : length (drop 253 xs) ≤ 253 * n = omega (arith, length-drop 253 xs) in
-    ap (λ (j : ℕ). take (length xs) (take 253 xs ++ replicate j 0 ++ joined (map (drop 1) (laterBodies n (drop 253 xs))))) (suc-sub-suc 253 (length (take 253 xs)))
-    ∙ filled 253 xs (joined (map (drop 1) (laterBodies n (drop 253 xs)))) (later n (drop 253 xs) rest)
+    let behind : List ℕ = joined (map (drop 1) (laterBodies n (drop 253 xs))) in
+    ap (λ (j : ℕ). take (length xs) (take 253 xs ++ replicate j 0 ++ behind)) (suc-sub-suc 253 (length (take 253 xs)))
+    ∙ filled 253 xs behind (later n (drop 253 xs) rest)
 
 word-back : (n : ℕ) → n < 65536 → n % 256 + 256 * (n / 256 % 256) ≡ n
 word-back n h = omega arith
@@ -130,7 +132,8 @@ pub plain-only : (bs : List (List ℕ)) (m : Module) → plain bs ≡ some m →
 unfolding plain
 plain-only bs m p = case (allowed (guessed bs) && sameAll (bodies (guessed bs)) bs) refl p
   where
-    case : (b : Bool) → allowed (guessed bs) && sameAll (bodies (guessed bs)) bs ≡ b → cond b (some (guessed bs)) none ≡ some m → (allowed m ≡ true) × (bodies m ≡ bs)
+    case : (b : Bool) → allowed (guessed bs) && sameAll (bodies (guessed bs)) bs ≡ b → cond b (some (guessed bs)) none ≡ some m
+        → (allowed m ≡ true) × (bodies m ≡ bs)
     case true e q =
         let is : guessed bs ≡ m = cc in
         let h = and-true (allowed (guessed bs)) (sameAll (bodies (guessed bs)) bs) e in

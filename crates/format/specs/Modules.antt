@@ -6,7 +6,7 @@ use mathlib.Core.Option.{Option, none, some}
 use mathlib.Core.List.{List, [], _∷_, _++_, map}
 use lib.ListN.{length, take, drop}
 use lib.Dec.{leb}
-use Rattle.format.specs.Lists.{byte, word, wordAt, joined, sameAll, padded}
+use Rattle.lists.specs.Lists.{byte, word, wordAt, joined, sameAll, padded}
 
 -- "A file holds a load module: page 0 to 7, start and transfer address (16 bits each), and L bytes"; L is the length of `bytes`.
 pub record Module : Type 0 where

@@ -6,12 +6,13 @@ use mathlib.Core.Logic.{_≢_}
 use Prim.Native.Nat.{ℕ, suc, _<_}
 use mathlib.Core.List.{List}
 use lib.ListN.{length}
-use Rattle.format.specs.Lists.{Once}
+use Rattle.lists.specs.Lists.{Once}
 use Rattle.format.specs.Refusals.{Try, Refusal, SIZE, refused, ok, _>>=_, valueOr}
 use Rattle.format.specs.Geometry.{Format, stated, arranged, geometry, cut, flat, Part, movedPart, bytesOf}
 use Rattle.format.specs.Modules.{Module}
 use Rattle.format.specs.Calls as calls
-use Rattle.format.specs.Calls.{Answer, answered, ChangeAnswer, changeAnswerBy, listAnswerBy, readAnswerBy, afterCheck, afterList, afterRead, afterSave, afterDelete, afterRename, afterProtect, afterReplay, afterRepair, afterBlank, viewNumber, viewPart}
+use Rattle.format.specs.Calls.{Answer, answered, ChangeAnswer, changeAnswerBy, listAnswerBy, readAnswerBy, afterCheck, afterList, afterRead}
+use Rattle.format.specs.Calls.{afterSave, afterDelete, afterRename, afterProtect, afterReplay, afterRepair, afterBlank, viewNumber, viewPart}
 
 -- an arrangement of a track's places: each sector of the track once
 abbrev pub Arrangement : Format → List ℕ → Type 0

@@ -8,14 +8,19 @@ use mathlib.Core.Option.{Option, none, some}
 use mathlib.Core.List.{List, [], _∷_, map}
 use lib.ListN.{length}
 use lib.Dec.{ltb}
+use Rattle.lists.specs.Lists.{range, Once, front}
+use Rattle.lists.specs.ListLaws.{All}
+use Rattle.lists.specs.Counts.{in-order-once}
 use Rattle.format.specs.Refusals.{Try, Refusal, NAME, SHORT, NO-SECTOR, refused, ok, _>>=_, _>>_, refuse_if_, _orRefuse_, number, valueOr}
-use Rattle.format.specs.Lists.{range, Once, front}
-use Rattle.format.specs.ListLaws.{All}
-use Rattle.format.specs.Geometry.{Format, ten, tenMoved, unknown, stated, arranged, Geometry, tracked, geometry, sectors, sectorNumber, startOf, placeOf, sectorAt, onDisc, Disc, cut, flat, sector, bodyPart, movedPart, bytesOf, Write, written}
-use Rattle.format.specs.Arrangements.{in-order-once, Arranged}
-use Rattle.format.specs.GeometryLaws.{same-length, no-disc, place-back, number-below, on-disc-is, ImageOf, geometry-ok, Full, cut-full, cut-flat, flat-cut, flat-long}
+use Rattle.format.specs.Geometry.{Format, ten, tenMoved, unknown, stated, arranged, Geometry, tracked, geometry, sectors, sectorNumber}
+use Rattle.format.specs.Geometry.{startOf, placeOf, sectorAt, onDisc, Disc, cut, flat, sector, bodyPart, movedPart, bytesOf, Write, written}
+use Rattle.format.specs.Arrangements.{Arranged}
+use Rattle.format.specs.GeometryLaws.{same-length, no-disc, place-back, number-below, on-disc-is, ImageOf}
+use Rattle.format.specs.GeometryLaws.{geometry-ok, Full, cut-full, cut-flat, flat-cut, flat-long}
 use Rattle.format.specs.Formats.{stated-cases, other-arrangement, other-sectors, nine-moved}
-use Rattle.format.specs.Calls.{listOn, readOn, saveOn, deleteOn, renameOn, protectOn, replayOn, repairOn, partBy, listAnswerBy, readAnswerBy, answered, answerBy, asked, changed, listed, changeAnswerBy, blank, view, checkAnswerBy, afterCheck, afterList, afterRead, afterSave, afterDelete, afterRename, afterProtect, afterReplay, afterRepair, afterBlank, viewNumber, viewPart}
+use Rattle.format.specs.Calls.{listOn, readOn, saveOn, deleteOn, renameOn, protectOn, replayOn, repairOn, partBy, listAnswerBy, readAnswerBy, answered}
+use Rattle.format.specs.Calls.{answerBy, asked, changed, listed, changeAnswerBy, blank, view, checkAnswerBy, afterCheck, afterList, afterRead}
+use Rattle.format.specs.Calls.{afterSave, afterDelete, afterRename, afterProtect, afterReplay, afterRepair, afterBlank, viewNumber, viewPart}
 use Rattle.format.specs.Names.{discName}
 use Rattle.format.specs.Check.{broken}
 use Rattle.format.specs.Effects.{body, blankDisc}
@@ -90,12 +95,11 @@ module _ (F : Format) (own : Arrangement F (F .arrangement)) (A : List ℕ) (oth
           d : Disc
           d = cut F G image
 
-          on : (t : Try Refusal (List Write)) → h G (cut F G image) ≡ t
-              → answerBy (movedForm F A image) (t >>= λ ws. ok (flat (arranged A F) G (written ws (cut F G image))))
-              ≡ movedAnswer F A (answerBy image (t >>= λ ws. ok (flat F G (written ws (cut F G image)))))
+          on : (t : Try Refusal (List Write)) → h G d ≡ t
+              → answerBy (movedForm F A image) (t >>= λ ws. ok (flat (arranged A F) G (written ws d)))
+              ≡ movedAnswer F A (answerBy image (t >>= λ ws. ok (flat F G (written ws d))))
           on (refused e) q = refl
-          on (ok ws) q =
-              ap (answered 0) (sym (moved-flat image G p (written ws (cut F G image)) (written-full ws (whole G (cut F G image) (full image G p) ws q) (full image G p))))
+          on (ok ws) q = ap (answered 0) (sym (moved-flat image G p (written ws d) (written-full ws (whole G d (full image G p) ws q) (full image G p))))
 
   -- the same, with the list of what was written
   pub listed-moved : (h : Geometry → Disc → Try Refusal (List Write))
@@ -126,9 +130,11 @@ module _ (F : Format) (own : Arrangement F (F .arrangement)) (A : List ℕ) (oth
 
           on : (t : Try Refusal (List Write)) → h G d ≡ t
               → changeAnswerBy (movedForm F A image) buffer
-              (t >>= λ ws. (refuse SHORT if ltb (length buffer) (length (writeList G ws)) >> ok (record { image = flat (arranged A F) G (written ws d); list = writeList G ws })))
+              (t >>= λ ws. (refuse SHORT if ltb (length buffer) (length (writeList G ws))
+              >> ok (record { image = flat (arranged A F) G (written ws d); list = writeList G ws })))
               ≡ movedChange F A (changeAnswerBy image buffer
-              (t >>= λ ws. (refuse SHORT if ltb (length buffer) (length (writeList G ws)) >> ok (record { image = flat F G (written ws d); list = writeList G ws }))))
+              (t >>= λ ws. (refuse SHORT if ltb (length buffer) (length (writeList G ws))
+              >> ok (record { image = flat F G (written ws d); list = writeList G ws }))))
           on (refused e) q = refl
           on (ok ws) q = fits ws q (ltb (length buffer) (length (writeList G ws)))
 
@@ -295,7 +301,8 @@ card-places = record { of-track = refl; starts-0-4 = refl; starts-39-10 = refl }
 -- ---- what gives 1
 
 none-gives-one : GivesOne unknown
-unfolding view asked changed listed changeAnswerBy blank answerBy afterCheck checkAnswerBy afterList listAnswerBy afterRead afterSave afterDelete afterRename afterProtect afterReplay afterRepair afterBlank _>>=_ number valueOr
+unfolding view asked changed listed changeAnswerBy blank answerBy afterCheck checkAnswerBy afterList listAnswerBy afterRead afterSave afterDelete afterRename
+    afterProtect afterReplay afterRepair afterBlank _>>=_ number valueOr
 none-gives-one =
     record {
       check = λ image. rw (no-disc (length image));

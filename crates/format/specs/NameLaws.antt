@@ -10,8 +10,8 @@ use lib.ListN.{length, take, drop, replicate, length-append, length-take, length
 use lib.Seq.{take-at, drop-at, getD-take}
 use lib.Dec.{eqb, leb}
 use borrow.Author.Tests.{leb-true, le-leb, ne-eqb, eqb-true}
-use Rattle.format.specs.Lists.{all, padded, byte}
-use Rattle.format.specs.ListLaws.{and-true, true-and, padded-long}
+use Rattle.lists.specs.Lists.{all, padded, byte}
+use Rattle.lists.specs.ListLaws.{and-true, true-and, padded-long}
 use Rattle.format.specs.Names.{letter, letters, dot, space, beforeDot, afterDot, nineBytes, withExtension, stored, spaced, legalStored}
 
 -- ---- lo to hi letters
@@ -56,7 +56,13 @@ made-of n (some e) nine p =
     let q = picked (letters 1 6 n && letters 1 3 e) (nineBytes n e) nine p in
     let h = and-true (letters 1 6 n) (letters 1 3 e) (q .0) in
     let w = letters-true 1 3 e (h .1) in
-    record { name = n; extension = e; is = sym (q .1); of-name = letters-true 1 6 n (h .0); of-extension = record { low = omega arith; high = w .high; each = w .each } }
+    record {
+      name = n;
+      extension = e;
+      is = sym (q .1);
+      of-name = letters-true 1 6 n (h .0);
+      of-extension = record { low = omega arith; high = w .high; each = w .each };
+    }
 
 pub made : (typed nine : List ℕ) → stored typed ≡ some nine → Made nine
 unfolding stored
@@ -94,10 +100,13 @@ module _ (nine : List ℕ) (m : Made nine) where
   pub made-legal : legalStored nine ≡ true
   unfolding legalStored
   made-legal =
+      let front : List ℕ = padded 6 space (m .name) in
+      let back : List ℕ = padded 3 space (m .extension) in
       rw (m .is) (true-and (true-and
-      (ap (λ (r : List ℕ). letter (byte r 0)) (append-assoc (m .name) (replicate (6 - length (m .name)) space) (padded 3 space (m .extension))) ∙ head-letter (m .name) _ (m .of-name .low) (m .of-name .each))
-      (ap spaced (take-at (padded 6 space (m .name)) (padded 3 space (m .extension)) 6 six) ∙ spaced-letters (m .name) (6 - length (m .name)) (m .of-name .each)))
-      (ap spaced (drop-at (padded 6 space (m .name)) (padded 3 space (m .extension)) 6 six) ∙ spaced-letters (m .extension) (3 - length (m .extension)) (m .of-extension .each)))
+      (ap (λ (r : List ℕ). letter (byte r 0)) (append-assoc (m .name) (replicate (6 - length (m .name)) space) back)
+      ∙ head-letter (m .name) _ (m .of-name .low) (m .of-name .each))
+      (ap spaced (take-at front back 6 six) ∙ spaced-letters (m .name) (6 - length (m .name)) (m .of-name .each)))
+      (ap spaced (drop-at front back 6 six) ∙ spaced-letters (m .extension) (3 - length (m .extension)) (m .of-extension .each)))
 
 pub stored-nine : (typed nine : List ℕ) → stored typed ≡ some nine → length nine ≡ 9
 stored-nine typed nine p = made-long nine (made typed nine p)
@@ -130,7 +139,12 @@ split-of (x ∷ xs) h = case (letter x) refl h (split-of xs)
     case true e k r =
         let w = r k in
         let less : length xs - length (w .front) ≡ suc (length xs) - suc (length (w .front)) = omega arith in
-        record { front = x ∷ w .front; is = ap (λ (t : List ℕ). x ∷ t) (w .is) ∙ ap (λ (j : ℕ). x ∷ w .front ++ replicate j space) less; few = omega (arith, w .few); each = true-and e (w .each) }
+        record {
+          front = x ∷ w .front;
+          is = ap (λ (t : List ℕ). x ∷ t) (w .is) ∙ ap (λ (j : ℕ). x ∷ w .front ++ replicate j space) less;
+          few = omega (arith, w .few);
+          each = true-and e (w .each);
+        }
     case false e k r =
         let whole : suc (length xs) ≡ suc (length xs) - 0 = omega arith in
         record { front = []; is = all-blank (x ∷ xs) k ∙ ap (λ (j : ℕ). replicate j space) whole; few = omega arith; each = refl }
@@ -144,16 +158,20 @@ unfolding beforeDot afterDot
 at-dot [] e h = (refl, refl)
 at-dot (b ∷ bs) e h =
     let w = and-true (letter b) (all letter bs) h in
-    let r = at-dot bs e (w .1) in
-    (ap₂ (λ (c : Bool) (t : List ℕ). cond c [] (b ∷ t)) (letter-no-dot b (w .0)) (r .0), ap₂ (λ (c : Bool) (o : Option (List ℕ)). cond c (some (bs ++ dot ∷ e)) o) (letter-no-dot b (w .0)) (r .1))
+    let r = at-dot bs e (w .1) in (
+      ap₂ (λ (c : Bool) (t : List ℕ). cond c [] (b ∷ t)) (letter-no-dot b (w .0)) (r .0),
+      ap₂ (λ (c : Bool) (o : Option (List ℕ)). cond c (some (bs ++ dot ∷ e)) o) (letter-no-dot b (w .0)) (r .1),
+    )
 
 no-dot : (n : List ℕ) → all letter n ≡ true → (beforeDot n ≡ n) × (afterDot n ≡ none)
 unfolding beforeDot afterDot
 no-dot [] h = (refl, refl)
 no-dot (b ∷ bs) h =
     let w = and-true (letter b) (all letter bs) h in
-    let r = no-dot bs (w .1) in
-    (ap₂ (λ (c : Bool) (t : List ℕ). cond c [] (b ∷ t)) (letter-no-dot b (w .0)) (r .0), ap₂ (λ (c : Bool) (o : Option (List ℕ)). cond c (some bs) o) (letter-no-dot b (w .0)) (r .1))
+    let r = no-dot bs (w .1) in (
+      ap₂ (λ (c : Bool) (t : List ℕ). cond c [] (b ∷ t)) (letter-no-dot b (w .0)) (r .0),
+      ap₂ (λ (c : Bool) (o : Option (List ℕ)). cond c (some bs) o) (letter-no-dot b (w .0)) (r .1),
+    )
 
 made-typed : (nine : List ℕ) → Made nine → (typed : List ℕ) × (stored typed ≡ some nine)
 unfolding stored withExtension
@@ -168,10 +186,12 @@ made-typed nine m = case (m .extension) (m .is) (m .of-extension)
               ∙ ap some (sym is),
         )
     case (x ∷ xs) is l =
-        let d = at-dot (m .name) (x ∷ xs) (m .of-name .each) in (
+        let d = at-dot (m .name) (x ∷ xs) (m .of-name .each) in
+        let some-letter : Letters 1 3 (x ∷ xs) = record { low = omega arith; high = l .high; each = l .each } in (
           m .name ++ dot ∷ x ∷ xs,
           ap₂ withExtension (d .0) (d .1)
-              ∙ ap (λ (c : Bool). cond c (some (nineBytes (m .name) (x ∷ xs))) none) (true-and (true-letters 1 6 (m .name) (m .of-name)) (true-letters 1 3 (x ∷ xs) (record { low = omega arith; high = l .high; each = l .each })))
+              ∙ ap (λ (c : Bool). cond c (some (nineBytes (m .name) (x ∷ xs))) none)
+              (true-and (true-letters 1 6 (m .name) (m .of-name)) (true-letters 1 3 (x ∷ xs) some-letter))
               ∙ ap some (sym is),
         )
 

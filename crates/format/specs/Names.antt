@@ -6,7 +6,7 @@ use mathlib.Core.Option.{Option, none, some}
 use mathlib.Core.List.{List, [], _∷_, _++_}
 use lib.ListN.{length, take, drop}
 use lib.Dec.{eqb, leb}
-use Rattle.format.specs.Lists.{all, padded, byte}
+use Rattle.lists.specs.Lists.{all, padded, byte}
 
 -- "A-Z and 0-9": document 01 has no word for both; a letter here is either.
 unfoldable pub letter : ℕ → Bool

@@ -6,12 +6,10 @@ use Prim.Native.Nat.{ℕ}
 use native.Mathlib.Omega.{arith}
 use mathlib.Core.Bool.{Bool, true, false}
 use mathlib.Core.Option.{Option, none, some}
-use Rattle.format.specs.Refusals.{Try, Refusal, SIZE, NAME, UNSOUND, ABSENT, TAKEN, PROTECTED, MODULE, ROOM, NOT-PLAIN, SHORT, NO-SECTOR, BAD-SHEET, TOTAL, BAD-LIST, numberOf, refused, ok, _>>=_, _>>_, refuse_if_, _orRefuse_, number}
+use Rattle.format.specs.Refusals.{Try, Refusal, SIZE, NAME, UNSOUND, ABSENT, TAKEN, PROTECTED, MODULE, ROOM, NOT-PLAIN, SHORT, NO-SECTOR}
+use Rattle.format.specs.Refusals.{BAD-SHEET, TOTAL, BAD-LIST, numberOf, refused, ok, _>>=_, _>>_, refuse_if_, _orRefuse_, number, valueOr}
 
 -- ---- accepted
-
-pub some-is : {A : Type 0} {x y : A} → _≡_ {A = Option A} (some x) (some y) → x ≡ y
-some-is e = cc
 
 module _ {E A : Type 0} where
   pub refused-ok : {e : E} {x : A} → refused e ≡ ok x → ⊥
@@ -43,7 +41,8 @@ module _ {A : Type 0} (j : ℕ) where
   never-if e true t n h = n
   never-if e false t n h = h
 
-  pub never-or : {B : Type 0} (e : Refusal) (o : Option B) (f : B → Try Refusal A) → numberOf e ≢ j → ((b : B) → number (f b) ≢ j) → number (o orRefuse e >>= f) ≢ j
+  pub never-or : {B : Type 0} (e : Refusal) (o : Option B) (f : B → Try Refusal A) → numberOf e ≢ j → ((b : B) → number (f b) ≢ j)
+      → number (o orRefuse e >>= f) ≢ j
   unfolding number _orRefuse_ _>>=_
   never-or e none f n h = n
   never-or e (some b) f n h = h b
@@ -64,3 +63,9 @@ refusal-number NO-SECTOR h = omega arith
 refusal-number BAD-SHEET h = omega arith
 refusal-number TOTAL h = omega arith
 refusal-number BAD-LIST h = omega arith
+
+-- 0 is accepted
+pub zero-ok : {A : Type 0} (a : A) (t : Try Refusal A) → number t ≡ 0 → t ≡ ok (valueOr a t)
+unfolding number valueOr
+zero-ok a (refused e) h = absurd (refusal-number e h)
+zero-ok a (ok x) h = refl

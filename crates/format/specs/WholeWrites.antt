@@ -1,7 +1,7 @@
 -- What the commands write are whole sectors, on any disc: 256 bytes wherever the sector is one of the disc. So the disc stays full.
 -- Assumes nothing.
-use mathlib.Core.Path.{_≡_, refl, sym, ap, _∙_, subst}
-use Prim.Native.Nat.{ℕ, zero, suc, _+_, _-_, _≤_, _<_}
+use mathlib.Core.Path.{_≡_, refl, sym, _∙_, subst}
+use Prim.Native.Nat.{ℕ, zero, suc, _+_, _-_, _<_}
 use native.Mathlib.Omega.{arith}
 use native.Mathlib.Decide.{decLe}
 use native.Mathlib.Nat.{lt-of-not-le}
@@ -9,17 +9,19 @@ use mathlib.Core.Bool.{not}
 use lib.Dec.{eqb}
 use mathlib.Core.Option.{Option, none, some}
 use mathlib.Core.List.{List, [], _∷_, _++_, map}
-use lib.ListN.{length, set, replicate, length-replicate, length-drop}
-use lib.Seq.{length-sets}
-use Rattle.format.specs.Lists.{lastOr}
+use lib.ListN.{length, replicate, length-replicate, length-drop}
+use lib.Seq.{length-sets, set-out}
+use Rattle.lists.specs.Lists.{lastOr}
+use Rattle.lists.specs.ListLaws.{All, done, _also_, all-join}
 use Rattle.format.specs.Refusals.{ok}
-use Rattle.format.specs.ListLaws.{All, done, _also_, all-join}
 use Rattle.format.specs.Geometry.{Geometry, sectors, Disc, sector, Next, go, Write, written}
 use Rattle.format.specs.GeometryLaws.{Full, full-set, sector-full}
-use Rattle.format.specs.Layout.{namePlace, attributePlace, attributeOf, protectedAs, Slot, linkPlace, linkBytes, freePointer, directory, fileChain, openSlot, slotStart, emptySlot}
+use Rattle.format.specs.Layout.{namePlace, attributePlace, attributeOf, protectedAs, Slot, linkPlace}
+use Rattle.format.specs.Layout.{linkBytes, freePointer, directory, fileChain, openSlot, slotStart, emptySlot}
 use Rattle.format.specs.Modules.{Module}
 use Rattle.format.specs.ModuleLaws.{bodies-254}
-use Rattle.format.specs.Effects.{body, slotWrite, withSlot, withLink, entryWrite, headOf, chained, systemWrite, entryWrites, saveWrites, deleteWrites, blankFree, blankSystem, blankDisc, unmet, repairWrites}
+use Rattle.format.specs.Effects.{body, slotWrite, withSlot, withLink, entryWrite, headOf, chained, systemWrite, entryWrites}
+use Rattle.format.specs.Effects.{saveWrites, deleteWrites, blankFree, blankSystem, blankDisc, unmet, repairWrites}
 use Rattle.format.specs.Calls.{saveOn, deleteOn, renameOn, protectOn, repairOn}
 use Rattle.format.specs.CallLaws.{save-ok, delete-ok, rename-ok, protect-ok, repair-ok}
 
@@ -27,16 +29,11 @@ use Rattle.format.specs.CallLaws.{save-ok, delete-ok, rename-ok, protect
 abbrev pub Whole : Geometry → Write → Type 0
 Whole G w = w .at < sectors G → length (w .bytes) ≡ 256
 
-set-past : {A : Type 0} (xs : List A) (n : ℕ) (x : A) → length xs ≤ n → set xs n x ≡ xs
-set-past [] n x h = refl
-set-past (y ∷ ys) zero x h = absurd (omega arith)
-set-past (y ∷ ys) (suc n) x h = ap (λ (r : List _). y ∷ r) (set-past ys n x (omega arith))
-
 pub written-full : {G : Geometry} {d : Disc} (ws : List Write) → All (Whole G) ws → Full G d → Full G (written ws d)
 written-full [] h f = f
 written-full {G} {d} (w ∷ ws) (h also hs) f =
     elim (decLe (sectors G) (w .at)) [
-      | yes l ↦ written-full ws hs (subst (Full G) (sym (set-past d (w .at) (w .bytes) (omega (arith, f .many)))) f)
+      | yes l ↦ written-full ws hs (subst (Full G) (sym (set-out d (w .at) (w .bytes) (omega (arith, f .many)))) f)
       | no l ↦ written-full ws hs (full-set f (w .at) (w .bytes) (h (lt-of-not-le l)))
     ]
 

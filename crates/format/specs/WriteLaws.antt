@@ -10,8 +10,8 @@ use lib.ListN.{length, take, drop, length-append, take-append-drop}
 use lib.Seq.{take-at, drop-at, length-take-le}
 use lib.Dec.{eqb}
 use borrow.Author.Tests.{eqb-true, ne-eqb}
-use Rattle.format.specs.Lists.{byte}
-use Rattle.format.specs.ListLaws.{and-true, All, done, _also_, all-map}
+use Rattle.lists.specs.Lists.{byte}
+use Rattle.lists.specs.ListLaws.{and-true, All, done, _also_, all-map}
 use Rattle.format.specs.Refusals.{BAD-LIST, ok, _orRefuse_}
 use Rattle.format.specs.RefusalLaws.{refused-ok, ok-is}
 use Rattle.format.specs.Geometry.{Geometry, sectors, sectorNumber, onDisc, trackOf, sectorOf, Disc, Write}
@@ -81,7 +81,8 @@ module _ (G : Geometry) where
       let is : writeOf G (trackOf G (w .at) ∷ sectorOf G (w .at) ∷ w .bytes ++ rest) ≡ w =
       λ i. record { at = number-back G some-sector (w .at) i; bytes = take-at (w .bytes) rest 256 (h .1) i } in
       let after : heldAfter G 256 (w .bytes ++ rest) ≡ some ws =
-      passed 256 (w .bytes ++ rest) (omega (arith, length-append (w .bytes) rest, h .1)) ∙ ap (held G) (drop-at (w .bytes) rest 256 (h .1)) ∙ held-list some-sector hs in
+      passed 256 (w .bytes ++ rest) (omega (arith, length-append (w .bytes) rest, h .1))
+      ∙ ap (held G) (drop-at (w .bytes) rest 256 (h .1)) ∙ held-list some-sector hs in
       rw (on, after) (ap (λ (v : Write). some (v ∷ ws)) is)
 
   -- ---- what holds writes is their list

@@ -7,7 +7,7 @@ use mathlib.Core.Option.{Option, none, some}
 use mathlib.Core.List.{List, [], _∷_, _++_}
 use lib.ListN.{take, drop}
 use lib.Dec.{eqb}
-use Rattle.format.specs.Lists.{byte}
+use Rattle.lists.specs.Lists.{byte}
 use Rattle.format.specs.Geometry.{Geometry, sectorNumber, onDisc, trackOf, sectorOf, Write}
 
 -- ---- the bytes of a list

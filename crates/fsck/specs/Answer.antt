@@ -5,9 +5,9 @@ use Prim.Native.Nat.{ℕ, _<_}
 use mathlib.Core.List.{List}
 use lib.ListN.{length}
 use Rattle.format.specs.Refusals.{Try, Refusal, SIZE, refused, ok, _>>=_, number, valueOr}
-use Rattle.disc.specs.Meaning.{form, geo, sectorsOf}
-use Rattle.disc.specs.Laws.{Opened}
-use Rattle.disc.specs.declared.Geometry as code
+use Rattle.geometry.specs.Meaning.{form, geo, sectorsOf}
+use Rattle.geometry.specs.Laws.{Opened}
+use Rattle.geometry.specs.declared.Geometry as code
 use Rattle.format.specs.Geometry.{Format, Geometry, geometry, cut}
 use Rattle.format.specs.Check.{broken}
 use Rattle.format.specs.Calls.{CheckAnswer, asked, checkAnswerBy, afterCheck}

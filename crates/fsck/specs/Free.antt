@@ -7,13 +7,14 @@ use mathlib.Core.Bool.{Bool, true, false, _&&_, false≢true}
 use mathlib.Core.List.{List}
 use lib.ListN.{length}
 use lib.Dec.{eqb}
-use Rattle.format.specs.Lists.{all, range}
+use Rattle.lists.specs.Lists.{all, range}
 use Rattle.format.specs.Geometry.{Geometry, Next, Disc}
 use Rattle.format.specs.Layout.{freeCount, chain, chainEnds, freePointer, free}
-use Rattle.fsck.specs.Marks.{marked, fresh}
-use Rattle.fsck.specs.Walks.{Walked, ended, walk-broken, walk-ended}
-use Rattle.fsck.specs.declared.Walk.{Walk}
-use Rattle.fsck.specs.declared.Walk.the-variants.{Ended, Broken}
+use Rattle.geometry.specs.declared.SectorNo.{SectorNo}
+use Rattle.fsck_chains.specs.Marks.{marked, fresh}
+use Rattle.fsck_chains.specs.Walks.{Walked, ended, walk-broken, walk-ended}
+use Rattle.fsck_chains.specs.declared.Followed.{Followed}
+use Rattle.fsck_chains.specs.declared.Followed.the-variants.{Ended, Broken}
 
 -- ---- the free chain
 
@@ -26,7 +27,7 @@ pub record FreeGood (G : Geometry) (d : Disc) (m : List ℕ) (r : Bool) (m′ : 
   pub answer : r ≡ freeGood G d m
   pub marks : r ≡ true → m′ ≡ marked m (free G d)
 
-module _ (G : Geometry) (d : Disc) {p : Next} (first : p ≡ freePointer G d) {m : List ℕ} {w : Walk} {m′ : List ℕ} (f : Walked G d p m w m′) where
+module _ (G : Geometry) (d : Disc) {p : Next} (first : p ≡ freePointer G d) {m : List ℕ} {w : Followed} {m′ : List ℕ} (f : Walked G d p m w m′) where
   walked : Walked G d (freePointer G d) m w m′
   walked = subst (λ (x : Next). Walked G d x m w m′) first f
 
@@ -39,7 +40,7 @@ module _ (G : Geometry) (d : Disc) {p : Next} (first : p ≡ freePointer G d) {m
         marks = λ z. absurd (false≢true z);
       }
 
-  pub free-ended : (k l : ℕ) → w ≡ Ended k l → (x : ℕ) → x ≡ freeCount d → FreeGood G d m (eqb k x) m′
+  pub free-ended : (k : ℕ) (l : SectorNo) → w ≡ Ended k l → (x : ℕ) → x ≡ freeCount d → FreeGood G d m (eqb k x) m′
   unfolding freeGood free
   free-ended k l e x h =
       let says = walk-ended G d (freePointer G d) m k l (sym e ∙ walked .answer) in

@@ -8,24 +8,25 @@ use mathlib.Core.List.{List, [], _∷_, _++_, map}
 use lib.ListN.{length}
 use lib.Dec.{eqb}
 use borrow.Author.Tests.{ne-eqb}
-use Rattle.format.specs.Lists.{all, elem, distinct, range, sum}
-use Rattle.format.specs.ListLaws.{and-true, All, done, _also_, all-map, all-join, all-joined}
+use Rattle.lists.specs.Lists.{all, elem, distinct, range, sum}
+use Rattle.lists.specs.ListLaws.{and-true, All, done, _also_, all-map, all-join, all-joined}
 use Rattle.format.specs.Geometry.{Geometry, sectors, Next, Disc}
 use Rattle.format.specs.GeometryLaws.{OnDisc, pointed-on}
 use Rattle.format.specs.Layout.{Slot, lengthOf, usedCount, freeCount, chain, chainEnds, directoryPointer, freePointer, directory, free, entries, fileChain, fileSectors, firstOf, places}
 use Rattle.format.specs.ChainLaws.{met-below}
 use Rattle.format.specs.Check.{elsewhere, goodChain, rule1, rule2, rule3, rule4, rule5, rule6, rule7, rule8, broken}
 use Rattle.format.specs.CheckLaws.{RulesTo5, broken-5}
-use Rattle.disc.specs.Meaning.{geo, Valid}
-use Rattle.disc.specs.declared.Geometry as code
-use Rattle.fsck.specs.Marks.{noMarks, marked, fresh, clear, Below, marked-join, fresh-join, fresh-none, marked-none}
-use Rattle.fsck.specs.Walks.{ended, Walked, walk-broken, walk-ended}
-use Rattle.fsck.specs.Files.{good, Filed, filed-bad, filed-good}
+use Rattle.geometry.specs.Meaning.{geo, Valid}
+use Rattle.geometry.specs.declared.Geometry as code
+use Rattle.geometry.specs.declared.SectorNo.{SectorNo}
+use Rattle.fsck_chains.specs.Marks.{noMarks, marked, fresh, clear, Below, marked-join, fresh-join, fresh-none, marked-none}
+use Rattle.fsck_chains.specs.Walks.{ended, Walked, walk-broken, walk-ended}
+use Rattle.fsck_files.specs.Files.{good, FilesMet, filed-bad, filed-good}
 use Rattle.fsck.specs.Free.{freeGood, FreeGood}
-use Rattle.fsck.specs.declared.Walk.{Walk}
-use Rattle.fsck.specs.declared.Walk.the-variants.{Ended, Broken}
-use Rattle.fsck.specs.declared.Files.{Files}
-use Rattle.fsck.specs.declared.Files.the-variants.{Good, Bad}
+use Rattle.fsck_chains.specs.declared.Followed.{Followed}
+use Rattle.fsck_chains.specs.declared.Followed.the-variants.{Ended, Broken}
+use Rattle.fsck_files.specs.declared.Files.{Files}
+use Rattle.fsck_files.specs.declared.Files.the-variants.{Good, Bad}
 use Rattle.fsck.specs.declared.Standing.{Standing}
 use Rattle.fsck.specs.declared.Standing.the-variants.{Fails, Holds}
 
@@ -130,7 +131,7 @@ module _ {g : code.Geometry} (v : Valid g) (d : Disc) where
     unfolding rule1
     rule1-is h = sym (h ∙ ap elsewhere first)
 
-    module _ {m : List ℕ} (before : m ≡ marksOf []) {w : Walk} {m′ : List ℕ} (f : Walked G d p m w m′) where
+    module _ {m : List ℕ} (before : m ≡ marksOf []) {w : Followed} {m′ : List ℕ} (f : Walked G d p m w m′) where
       walk-is : rule2 G d ≡ chainEnds G d p && fresh m (chain G d p)
       unfolding rule2 directory
       walk-is =
@@ -140,7 +141,7 @@ module _ {g : code.Geometry} (v : Valid g) (d : Disc) where
       pub rule2-broken : w ≡ Broken → rule2 G d ≡ false
       rule2-broken e = walk-is ∙ walk-broken G d p m (sym e ∙ f .answer)
 
-      pub rule2-ended : (k l : ℕ) → w ≡ Ended k l → (rule2 G d ≡ true) × (m′ ≡ marksOf (directory G d))
+      pub rule2-ended : (k : ℕ) (l : SectorNo) → w ≡ Ended k l → (rule2 G d ≡ true) × (m′ ≡ marksOf (directory G d))
       unfolding directory
       rule2-ended k l e = (
         walk-is ∙ walk-ended G d p m k l (sym e ∙ f .answer) .0,
@@ -149,7 +150,7 @@ module _ {g : code.Geometry} (v : Valid g) (d : Disc) where
 
   -- ---- rule 5
 
-  module _ (r : RulesTo4 G d) {m : List ℕ} (before : m ≡ marksOf (directory G d)) {most : ℕ} {a : Files} {m′ : List ℕ} (f : Filed G d (entries G d) most m a m′) where
+  module _ (r : RulesTo4 G d) {m : List ℕ} (before : m ≡ marksOf (directory G d)) {most : ℕ} {a : Files} {m′ : List ℕ} (f : FilesMet G d (entries G d) most m a m′) where
     files-are : rule5 G d ≡ all (goodChain G d) (entries G d) && fresh m (fileSectors G d)
     unfolding rule5 rule2
     files-are =

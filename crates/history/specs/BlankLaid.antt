@@ -2,7 +2,7 @@
 -- Assumes nothing.
 use mathlib.Core.Path.{_≡_, refl, sym, ap, ap₂, _∙_, subst}
 use mathlib.Core.Logic.{_≢_}
-use Prim.Native.Nat.{ℕ, zero, suc, _+_, _*_, _-_, _≤_, _<_}
+use Prim.Native.Nat.{ℕ, suc, _+_, _*_, _-_, _≤_, _<_}
 use native.Mathlib.Omega.{arith}
 use native.Mathlib.Decide.{ℕ-discrete}
 use native.Mathlib.Nat.{mul-le-mul-left}
@@ -11,20 +11,22 @@ use mathlib.Core.List.{List, [], _∷_, map, _++_, append-nil}
 use lib.ListN.{length, set, replicate, length-replicate, getD-replicate}
 use lib.Seq.{sets, length-sets}
 use borrow.Author.Tests.{ne-eqb, eq-eqb}
-use Rattle.format.specs.Lists.{elem, sum, times, byte, word, wordAt, Once}
-use Rattle.format.specs.ListLaws.{zero-or, All, done, _also_, times-none, times-here, times-past, at-all, once-long}
+use Rattle.lists.specs.Lists.{elem, sum, times, byte, word, wordAt, Once}
+use Rattle.lists.specs.ListLaws.{zero-or, All, done, _also_, times-none, times-here, times-past, at-all, once-long, all-replicate}
+use Rattle.lists.specs.Counts.{times-kept, times-lost, OneOf, one-of, once-apart}
+use Rattle.lists.specs.Stores.{getD-sets-off, getD-sets-in}
 use Rattle.format.specs.Geometry.{Geometry, sectors, Next, go, pointed, Disc, sector, written}
 use Rattle.format.specs.GeometryLaws.{pointed-stop, sector-other, sector-same, Full, full-set}
-use Rattle.format.specs.Layout.{freePlace, directoryPlace, freeCountPlace, usedCountPlace, discNamePlace, versionPlace, inUsePlace, Slot, inUse, lengthOf, slotsAt, slotsOf, pairAt, pairBytes, linkOf}
+use Rattle.format.specs.Layout.{freePlace, directoryPlace, freeCountPlace, usedCountPlace, discNamePlace, versionPlace}
+use Rattle.format.specs.Layout.{inUsePlace, Slot, inUse, lengthOf, slotsAt, slotsOf, pairAt, pairBytes, linkOf}
 use Rattle.format.specs.ChainLaws.{Chain, end, on}
 use Rattle.format.specs.Effects.{headOf, version, chained, passing, blankDirectory, blankFree, blankSystem, blankDisc}
-use Rattle.soundness.specs.Counts.{times-kept, times-lost, OneOf, one-of}
 use Rattle.soundness.specs.Passing.{passed-once, passed-not}
-use Rattle.soundness.specs.Stores.{getD-sets-off, getD-sets-in}
-use Rattle.soundness.specs.NameCounts.{called, called-none}
+use Rattle.lists.specs.Stores.{getD-sets-off, getD-sets-in}
+use Rattle.format.specs.NameCounts.{called, called-none}
 use Rattle.soundness.specs.Slots.{zeros-unused}
 use Rattle.soundness.specs.Filed.{entriesOf, chainsOf}
-use Rattle.soundness.specs.Laid.{Laid, once-apart}
+use Rattle.soundness.specs.Laid.{Laid}
 use Rattle.soundness.specs.Pointers.{Bounded, Pointable, to-sector, head-pointable, pair-stored}
 use Rattle.soundness.specs.ChainWrites.{chained-full, chained-other, chained-chain}
 
@@ -34,10 +36,6 @@ pub record Passes (G : Geometry) : Type 0 where
   pub some-track : 1 ≤ G .tracks
   pub four : 4 ≤ G .perTrack
   pub once : Once (suc (G .perTrack)) (G .order)
-
-all-replicate : {A : Type 0} {P : A → Type 0} (n : ℕ) (x : A) → P x → All P (replicate n x)
-all-replicate zero x h = done
-all-replicate (suc n) x h = h also all-replicate n x h
 
 module _ (G : Geometry) (ps : Passes G) where
   u : Bounded G
@@ -60,16 +58,21 @@ module _ (G : Geometry) (ps : Passes G) where
   blank-once : Once (sectors G) (blankDirectory G ∷ blankFree G)
   unfolding blankFree is-free
   blank-once =
-      let past : (n : ℕ) → n ≢ blankDirectory G → times n (blankDirectory G ∷ blankFree G) ≡ times n (blankFree G) = λ n h. times-past n (blankDirectory G) (blankFree G) h in
+      let past : (n : ℕ) → n ≢ blankDirectory G → times n (blankDirectory G ∷ blankFree G) ≡ times n (blankFree G) = λ n h.
+      times-past n (blankDirectory G) (blankFree G) h in
       let stays : (n : ℕ) → n ≢ 0 → n ≢ blankDirectory G → times n (blankFree G) ≡ times n (passing G) = λ n h k.
       times-kept is-free n (passing G) (rw (ne-eqb n 0 h, ne-eqb n (blankDirectory G) k)) in
       record {
         inside = λ n h k. elim (ℕ-discrete n (blankDirectory G)) [
-          | yes e ↦ omega (arith, times-here n (blankDirectory G) (blankFree G) e, times-lost is-free n (passing G) (rw (ne-eqb n 0 (λ w. omega arith), eq-eqb n (blankDirectory G) e)))
+          | yes e ↦
+              let lost = times-lost is-free n (passing G) (rw (ne-eqb n 0 (λ w. omega arith), eq-eqb n (blankDirectory G) e)) in
+              omega (arith, times-here n (blankDirectory G) (blankFree G) e, lost)
           | no e ↦ past n e ∙ stays n (λ w. omega arith) e ∙ passed-once G some-sector (ps .once) n k
         ];
         zeroth = past 0 (λ w. omega (arith, three)) ∙ times-lost is-free 0 (passing G) refl;
-        outside = λ n h. past n (λ w. omega (arith, three, enough)) ∙ stays n (λ w. omega (arith, enough)) (λ w. omega (arith, three, enough)) ∙ passed-not G some-sector (ps .once) n h;
+        outside = λ n h.
+            past n (λ w. omega (arith, three, enough)) ∙ stays n (λ w. omega (arith, enough)) (λ w. omega (arith, three, enough))
+            ∙ passed-not G some-sector (ps .once) n h;
       }
 
   free-at : (n : ℕ) → OneOf (sectors G) n (times n (blankDirectory G ∷ [])) (times n []) (times n (blankFree G))
@@ -135,14 +138,17 @@ module _ (G : Geometry) (ps : Passes G) where
 
     at-counts : (j : ℕ) → j < 4 → byte (blankSystem G nine) (freeCountPlace + j) ≡ byte counts₀ j
     unfolding counted-system counts₀
-    at-counts j h = to-counts (freeCountPlace + j) (omega arith) ∙ getD-sets-in counts₀ directory-pointed freeCountPlace j 0 h (omega (arith, directory-pointed-length))
+    at-counts j h =
+        to-counts (freeCountPlace + j) (omega arith)
+        ∙ getD-sets-in counts₀ directory-pointed freeCountPlace j 0 h (omega (arith, directory-pointed-length))
 
     system-frees : pairAt G (blankSystem G nine) freePlace ≡ headOf (blankFree G)
     unfolding directory-pointed free-pointed
     system-frees =
+        let pair : List ℕ = pairBytes G (go (blankDirectory G)) in
         ap₂ (λ (a b : ℕ). pointed G a b)
-        (to-pointers (freePlace + 1) (omega arith) ∙ getD-sets-off (pairBytes G (go (blankDirectory G))) free-pointed directoryPlace (freePlace + 1) 0 (λ a. absurd (omega arith)))
-        (to-pointers freePlace (omega arith) ∙ getD-sets-off (pairBytes G (go (blankDirectory G))) free-pointed directoryPlace freePlace 0 (λ a. absurd (omega arith)))
+        (to-pointers (freePlace + 1) (omega arith) ∙ getD-sets-off pair free-pointed directoryPlace (freePlace + 1) 0 (λ a. absurd (omega arith)))
+        (to-pointers freePlace (omega arith) ∙ getD-sets-off pair free-pointed directoryPlace freePlace 0 (λ a. absurd (omega arith)))
         ∙ pair-stored G u (replicate 256 0) freePlace to-free (omega arith)
 
     system-dirs : pairAt G (blankSystem G nine) directoryPlace ≡ go (blankDirectory G)
@@ -192,7 +198,8 @@ module _ (G : Geometry) (ps : Passes G) where
     at-zero : sector d 0 ≡ blankSystem G nine
     unfolding d₁
     at-zero =
-        ap (λ (x : Disc). sector x 0) d-is ∙ chained-other G (blankFree G) zero-bodies d₁ 0 (zero-or (times 0 (blankFree G)) (λ h. omega (arith, free-at 0 .low (omega arith))))
+        ap (λ (x : Disc). sector x 0) d-is
+        ∙ chained-other G (blankFree G) zero-bodies d₁ 0 (zero-or (times 0 (blankFree G)) (λ h. omega (arith, free-at 0 .low (omega arith))))
         ∙ sector-same zeros 0 (blankSystem G nine) (omega (arith, zeros-full .many, enough))
 
     at-dir : sector d (blankDirectory G) ≡ replicate 256 0
@@ -209,8 +216,10 @@ module _ (G : Geometry) (ps : Passes G) where
 
     free-chain : Chain G d (headOf (blankFree G)) (blankFree G)
     unfolding zero-bodies
-    free-chain = subst (λ (x : Disc). Chain G x (headOf (blankFree G)) (blankFree G)) (sym d-is)
-        (chained-chain G u (blankFree G) zero-bodies d₁ (free-long ∙ sym (length-replicate (sectors G - 2) (replicate 254 0))) below (d₁-full .many) (λ n. omega (arith, free-at n .one)) .0)
+    free-chain =
+        let as-many : length (blankFree G) ≡ length zero-bodies = free-long ∙ sym (length-replicate (sectors G - 2) (replicate 254 0)) in
+        subst (λ (x : Disc). Chain G x (headOf (blankFree G)) (blankFree G)) (sym d-is)
+        (chained-chain G u (blankFree G) zero-bodies d₁ as-many below (d₁-full .many) (λ n. omega (arith, free-at n .one)) .0)
 
     met-once : Once (sectors G) ((blankDirectory G ∷ []) ++ chainsOf G d (entriesOf d (blankDirectory G ∷ [])) ++ blankFree G)
     met-once = rw no-entries blank-once
@@ -231,5 +240,6 @@ module _ (G : Geometry) (ps : Passes G) where
           free-chain = subst (λ (q : Next). Chain G d q (blankFree G)) (sym (ap (λ (r : List ℕ). pairAt G r freePlace) at-zero ∙ system-frees)) free-chain;
           once = met-once;
           free-counted = ap (λ (r : List ℕ). wordAt r freeCountPlace) at-zero ∙ system-freeCount ∙ sym free-long;
-          used-counted = ap (λ (r : List ℕ). wordAt r usedCountPlace) at-zero ∙ system-usedCount ∙ ap (λ (ss : List Slot). sum (map lengthOf ss)) (sym no-entries);
+          used-counted = ap (λ (r : List ℕ). wordAt r usedCountPlace) at-zero ∙ system-usedCount
+              ∙ ap (λ (ss : List Slot). sum (map lengthOf ss)) (sym no-entries);
         }

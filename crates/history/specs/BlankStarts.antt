@@ -7,10 +7,10 @@ use mathlib.Core.Bool.{Bool, cond, true, false}
 use mathlib.Core.Option.{none, some}
 use mathlib.Core.List.{List}
 use lib.ListN.{length}
-use Rattle.format.specs.Lists.{padded}
-use Rattle.format.specs.ListLaws.{padded-long}
+use Rattle.lists.specs.Lists.{padded}
+use Rattle.lists.specs.ListLaws.{padded-long}
 use Rattle.format.specs.Refusals.{NAME, ok, _>>=_, number, valueOr}
-use Rattle.format.specs.RefusalLaws.{ok-is, or-ok, then-ok}
+use Rattle.format.specs.RefusalLaws.{ok-is, or-ok, then-ok, zero-ok}
 use Rattle.format.specs.Geometry.{Format, unknown, stated, Geometry, geometry, cut, flat}
 use Rattle.format.specs.GeometryLaws.{no-disc, ImageOf, geometry-ok, cut-flat, flat-long}
 use Rattle.format.specs.Formats.{GoodFormat, four, good-arranged, stated-cases}
@@ -21,7 +21,6 @@ use Rattle.format.specs.Effects.{blankDisc}
 use Rattle.format.specs.Calls.{asked, blank, answerBy, checkAnswerBy, afterCheck, afterBlank}
 use Rattle.history.specs.Demand3.{BlankStarts}
 use Rattle.soundness.specs.Laid.{laid-sound}
-use Rattle.history.specs.Answers.{zero-ok}
 use Rattle.history.specs.Steps.{image-bounded}
 use Rattle.history.specs.BlankLaid.{Passes, blank-full, blank-laid}
 

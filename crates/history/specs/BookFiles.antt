@@ -5,18 +5,20 @@ use Prim.Native.Nat.{ℕ, _+_, _≤_, _<_}
 use native.Mathlib.Omega.{arith}
 use mathlib.Core.Bool.{Bool, true, false}
 use mathlib.Core.Option.{Option}
-use mathlib.Core.List.{List, [], _∷_, map, _++_}
+use mathlib.Core.List.{List, [], _∷_, map, _++_, map-append}
 use lib.ListN.{length, length-map}
-use Rattle.format.specs.Lists.{same, consIf, filter, times}
-use Rattle.format.specs.ListLaws.{All, done, _also_, head-of, tail-of, all-left, all-right, map-same, map-join, times-join, at-all}
+use Rattle.lists.specs.Lists.{same, consIf, filter, times}
+use Rattle.lists.specs.ListLaws.{All, done, _also_, head-of, tail-of, all-left, all-right, map-same, times-join, at-all}
+use Rattle.lists.specs.Places.{Place}
 use Rattle.format.specs.Geometry.{Geometry, Disc, sector}
 use Rattle.format.specs.Layout.{Slot, nameOf, lengthOf, linkOf, firstOf, lastOf, fileChain}
 use Rattle.format.specs.Modules.{Module, plain}
 use Rattle.format.specs.Effects.{body, reading}
 use Rattle.history.specs.History.{File, named}
-use Rattle.soundness.specs.Places.{Place}
-use Rattle.soundness.specs.NameCounts.{ofName, called}
-use Rattle.soundness.specs.Filed.{GoodChain, entriesOf, chainsOf, Filed}
+use Rattle.lists.specs.Places.{Place}
+use Rattle.format.specs.NameCounts.{ofName, called}
+use Rattle.format.specs.RuleLaws.{GoodChain}
+use Rattle.soundness.specs.Filed.{entriesOf, chainsOf, Filed}
 use Rattle.soundness.specs.Frames.{file-frame, chains-at}
 
 abbrev pub fileOf : Geometry → Disc → Slot → File
@@ -28,22 +30,27 @@ filesOf G d dir = map (fileOf G d) (entriesOf d dir)
 
 module _ (G : Geometry) (d d′ : Disc) where
   -- a file whose sectors stay is read as before
-  pub reading-frame : (s s′ : Slot) → fileChain G d′ s′ ≡ fileChain G d s → ((n : ℕ) → 0 < times n (fileChain G d s) → sector d′ n ≡ sector d n) → reading G d′ s′ ≡ reading G d s
+  pub reading-frame : (s s′ : Slot) → fileChain G d′ s′ ≡ fileChain G d s → ((n : ℕ) → 0 < times n (fileChain G d s) → sector d′ n ≡ sector d n)
+      → reading G d′ s′ ≡ reading G d s
   unfolding reading
   reading-frame s s′ e h = ap plain (ap (map (λ n. body (sector d′ n))) e ∙ map-same (at-all (fileChain G d s) (λ n k. ap body (h n k))))
 
-  pub fileOf-frame : (ss : List Slot) → All (GoodChain G d) ss → ((n : ℕ) → 0 < times n (chainsOf G d ss) → sector d′ n ≡ sector d n) → map (fileOf G d′) ss ≡ map (fileOf G d) ss
+  pub fileOf-frame : (ss : List Slot) → All (GoodChain G d) ss → ((n : ℕ) → 0 < times n (chainsOf G d ss) → sector d′ n ≡ sector d n)
+      → map (fileOf G d′) ss ≡ map (fileOf G d) ss
   fileOf-frame [] done h = refl
   fileOf-frame (s ∷ ss) (f also fs) h =
-      let here : (n : ℕ) → 0 < times n (fileChain G d s) → sector d′ n ≡ sector d n = λ n k. h n (omega (arith, times-join n (fileChain G d s) (chainsOf G d ss))) in
+      let here : (n : ℕ) → 0 < times n (fileChain G d s) → sector d′ n ≡ sector d n = λ n k.
+      h n (omega (arith, times-join n (fileChain G d s) (chainsOf G d ss))) in
       let c = file-frame d′ s refl refl refl f (at-all (fileChain G d s) (λ n k. ap (linkOf G) (here n k))) in
       ap₂ (λ (a : File) (r : List File). a ∷ r)
       (ap (λ (r : Option Module). record { name = nameOf s; count = lengthOf s; reading = r }) (reading-frame s s (c .0) here))
       (fileOf-frame ss fs (λ n k. h n (omega (arith, times-join n (fileChain G d s) (chainsOf G d ss)))))
 
 -- one slot changes, but not its file's sectors
-pub filesOf-place : {G : Geometry} {d : Disc} (d′ : Disc) (dir : List ℕ) {s s′ : Slot} → All (GoodChain G d) (entriesOf d dir) → Place (entriesOf d dir) (entriesOf d′ dir) s s′
-    → ((n : ℕ) → 0 < times n (chainsOf G d (entriesOf d dir)) → sector d′ n ≡ sector d n) → firstOf G s′ ≡ firstOf G s → lastOf G s′ ≡ lastOf G s → lengthOf s′ ≡ lengthOf s
+pub filesOf-place : {G : Geometry} {d : Disc} (d′ : Disc) (dir : List ℕ) {s s′ : Slot} → All (GoodChain G d) (entriesOf d dir)
+    → Place (entriesOf d dir) (entriesOf d′ dir) s s′
+    → ((n : ℕ) → 0 < times n (chainsOf G d (entriesOf d dir)) → sector d′ n ≡ sector d n) → firstOf G s′ ≡ firstOf G s → lastOf G s′ ≡ lastOf G s
+    → lengthOf s′ ≡ lengthOf s
     → Place (filesOf G d dir) (filesOf G d′ dir) (fileOf G d s) (record { name = nameOf s′; count = lengthOf s; reading = reading G d s })
 filesOf-place {G} {d} d′ dir {s = s} {s′ = s′} files p stay e1 e2 e3 =
     let fs = rw (p .was) at files in
@@ -56,8 +63,9 @@ filesOf-place {G} {d} d′ dir {s = s} {s′ = s′} files p stay e1 e2 e3 =
     record {
       pre = map (fileOf G d) (p .pre);
       post = map (fileOf G d) (p .post);
-      was = ap (map (fileOf G d)) (p .was) ∙ map-join (fileOf G d) (p .pre) (s ∷ p .post);
-      now = ap (map (fileOf G d′)) (p .now) ∙ map-join (fileOf G d′) (p .pre) (s′ ∷ p .post) ∙ λ i. a i ++ record { name = nameOf s′; count = e3 i; reading = r i } ∷ b i;
+      was = ap (map (fileOf G d)) (p .was) ∙ map-append (fileOf G d) (p .pre) (s ∷ p .post);
+      now = ap (map (fileOf G d′)) (p .now) ∙ map-append (fileOf G d′) (p .pre) (s′ ∷ p .post)
+          ∙ λ i. a i ++ record { name = nameOf s′; count = e3 i; reading = r i } ∷ b i;
     }
 
 -- ---- by name
@@ -74,4 +82,5 @@ named-files G d x (s ∷ ss) = by (same (nameOf s) x) (named-files G d x ss)
 
 pub named-few : {G : Geometry} {d : Disc} {dir : List ℕ} → Filed G d dir → (x : List ℕ) → length (filter (named x) (filesOf G d dir)) ≤ 1
 unfolding called
-named-few {G} {d} {dir} f x = omega (arith, ap length (named-files G d x (entriesOf d dir)), length-map (ofName x (entriesOf d dir)) (fileOf G d), f .names-differ x)
+named-few {G} {d} {dir} f x =
+    omega (arith, ap length (named-files G d x (entriesOf d dir)), length-map (ofName x (entriesOf d dir)) (fileOf G d), f .names-differ x)

@@ -6,14 +6,14 @@ use mathlib.Core.Logic.{_≢_}
 use Prim.Native.Nat.{ℕ, _+_, _/_, _%_, _<_}
 use native.Mathlib.Omega.{arith}
 use native.Mathlib.Decide.{ℕ-discrete}
-use mathlib.Core.Bool.{false, _&&_}
+use mathlib.Core.Bool.{false, _&&_, and-false}
 use mathlib.Core.List.{List, [], _∷_}
 use lib.ListN.{length}
 use lib.Seq.{ext-getD}
 use lib.Dec.{eqb}
 use borrow.Author.Tests.{ne-eqb}
-use Rattle.format.specs.Lists.{byte, filter, elem, times, lastOr}
-use Rattle.format.specs.ListLaws.{and-false, zero-or, times-none, times-split, none-elem, at-all}
+use Rattle.lists.specs.Lists.{byte, filter, elem, times, lastOr}
+use Rattle.lists.specs.ListLaws.{zero-or, times-none, times-split, none-elem, at-all}
 use Rattle.format.specs.Refusals.{ok, _>>=_}
 use Rattle.format.specs.Geometry.{Format, Geometry, geometry, sectors, sectorAt, startOf, stop, pointed, Disc, sector, cut}
 use Rattle.format.specs.Formats.{GoodFormat}

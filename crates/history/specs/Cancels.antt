@@ -8,7 +8,7 @@ use mathlib.Core.Bool.{Bool, false, _&&_, _||_}
 use mathlib.Core.List.{List}
 use lib.ListN.{length, take}
 use lib.Dec.{eqb, leb}
-use Rattle.format.specs.Lists.{byte, elem, lastOr}
+use Rattle.lists.specs.Lists.{byte, elem, lastOr}
 use Rattle.format.specs.Refusals.{ok}
 use Rattle.format.specs.Geometry.{Format, Geometry, geometry, sectorAt, Disc, cut}
 use Rattle.format.specs.Names.{stored}

@@ -1,4 +1,5 @@
--- Two sentences of document 01 that follow from demand 3: what the opening book's readings are, and that what is saved is read back.
+-- Sentences of document 01 that follow from demand 3: what the opening book's readings are, that what is saved is read back, and that a save which
+-- changes no byte cannot say done.
 -- Assumes nothing.
 use mathlib.Core.Path.{_≡_, refl, sym, ap, _∙_, subst}
 use Prim.Native.Nat.{ℕ, _≤_}
@@ -7,7 +8,8 @@ use mathlib.Core.Option.{Option, none, some}
 use mathlib.Core.List.{List, [], _∷_}
 use lib.ListN.{length, getElem?}
 use borrow.Author.Tests.{le-ltb}
-use Rattle.format.specs.ListLaws.{All, done, _also_, all-mapped}
+use Rattle.lists.specs.ListLaws.{all-mapped, all-any}
+use Rattle.lists.specs.OnlyOne.{all-got}
 use Rattle.format.specs.Refusals.{NOT-PLAIN, ok, _>>_, refuse_if_, _orRefuse_}
 use Rattle.format.specs.RefusalLaws.{refusal-number}
 use Rattle.format.specs.Geometry.{Format, Geometry, geometry, Disc, cut}
@@ -15,20 +17,15 @@ use Rattle.format.specs.Formats.{GoodFormat}
 use Rattle.format.specs.Names.{stored}
 use Rattle.format.specs.Layout.{Slot, entries}
 use Rattle.format.specs.Modules.{Module}
-use Rattle.format.specs.ModuleLaws.{allowed-true, plain-only}
+use Rattle.format.specs.ModuleLaws.{allowed-true, sectors-fit, plain-only}
 use Rattle.format.specs.Effects.{reading}
 use Rattle.format.specs.Calls.{saveOn, ChangeAnswer, changeAnswerBy, readAnswerBy, afterCheck, afterRead, afterSave}
 use Rattle.format.specs.CallLaws.{save-ok}
 use Rattle.format.specs.ListedLaws.{Outcome, stays, writes, outcome}
-use Rattle.history.specs.History.{Command, save, step, run, File, Book, nineOf, accepted, entered, openingBook, bookAfter, says}
+use Rattle.history.specs.History.{Command, save, step, run, File, Book, nineOf, accepted, entered, openingBook, bookAfter, says, sumDirectory, sumFiles}
 use Rattle.history.specs.Demand3.{isSound, Handed, Moment, Demand3}
-use Rattle.history.specs.OnlyOne.{all-got}
 use Rattle.history.specs.State.{nine-of}
 use Rattle.history.specs.DemandSays.{demand-3-of}
-
-all-any : {A : Type 0} {P : A → Type 0} (xs : List A) → ((x : A) → P x) → All P xs
-all-any [] h = done
-all-any (x ∷ xs) h = h x also all-any xs h
 
 -- a module that is read has 65,536 bytes at most
 reading-small : (G : Geometry) (d : Disc) (s : Slot) (m : Module) → reading G d s ≡ some m → length (m .bytes) ≤ 65536
@@ -54,7 +51,8 @@ saved-typed F s name m buffer G g = case (outcome F s buffer (λ G d. saveOn G d
 module _ (F : Format) (f : GoodFormat F) (s : List ℕ) (G : Geometry) (g : geometry F (length s) ≡ ok G) (checked : afterCheck F s ≡ isSound) where
   -- "At the start these are the entries', each reading as read with a buffer of 65,536 bytes gives it."
   pub opening-reads : (i : ℕ) (file : File) → getElem? (openingBook G (cut F G s) .files) i ≡ some file
-      → (typed buffer : List ℕ) → stored typed ≡ some (file .name) → length buffer ≡ 65536 → afterRead F s typed buffer ≡ readAnswerBy buffer (file .reading orRefuse NOT-PLAIN)
+      → (typed buffer : List ℕ) → stored typed ≡ some (file .name) → length buffer ≡ 65536
+      → afterRead F s typed buffer ≡ readAnswerBy buffer (file .reading orRefuse NOT-PLAIN)
   unfolding Demand3 run bookAfter openingBook
   opening-reads i file e typed buffer t long =
       let m = demand-3-of F f s G g checked [] tt 0 (omega arith) in
@@ -73,3 +71,10 @@ module _ (F : Format) (f : GoodFormat F) (s : List ℕ) (G : Geometry) (g : geom
       subst (λ (k : ℕ). Moment F G s (afterSave F s name m lent .image) (entered b c k)) e
       (demand-3-of F f s G g checked (c ∷ []) (handed, tt) 1 (omega arith)) in
       now .reads 0 _ refl name buffer (saved-typed F s name m lent G g e)
+
+-- "The last two fail demand 3 as well": a save that changes no byte, and one that only says done for later sheets. At no moment of a run is a save
+-- accepted while the image stays: the free chain would have to be shorter.
+pub save-that-stays : (F : Format) (G : Geometry) (s image name lent : List ℕ) (b : Book) (m : Module)
+    → Moment F G s image b → Moment F G s image (accepted b (save name m lent)) → ⊥
+unfolding accepted sumFiles sumDirectory
+save-that-stays F G s image name lent b m before after = omega (arith, before .free-added, after .free-added, sectors-fit (length (m .bytes)) .some-sector)

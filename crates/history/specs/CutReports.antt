@@ -12,21 +12,22 @@ use lib.ListN.{length, set, take, drop, length-append, take-append-drop}
 use lib.Seq.{take-all}
 use lib.Dec.{leb, ltb}
 use borrow.Author.Tests.{eqb-true, le-leb, lt-leb, lt-ltb, le-ltb}
-use Rattle.format.specs.Lists.{sum, times, wordAt, lastOr}
-use Rattle.format.specs.ListLaws.{All, done, _also_, at-all, times-here, times-past, times-join, zero-or}
+use Rattle.lists.specs.Lists.{sum, times, wordAt, lastOr}
+use Rattle.lists.specs.ListLaws.{All, done, _also_, at-all, times-here, times-past, times-join, zero-or, all-take}
+use Rattle.lists.specs.Counts.{OneOf}
 use Rattle.format.specs.Refusals.{ok}
 use Rattle.format.specs.RefusalLaws.{refused-ok}
 use Rattle.format.specs.Geometry.{Format, unknown, stated, Geometry, geometry, sectors, Disc, sector, cut, Write, written}
 use Rattle.format.specs.Formats.{GoodFormat, stated-cases}
 use Rattle.format.specs.GeometryLaws.{no-disc, Full, sector-full, sector-same, sector-other, pointed-on}
 use Rattle.format.specs.ChainLaws.{Chain, chain-frame}
-use Rattle.format.specs.Layout.{freePlace, freeCountPlace, usedCountPlace, Slot, system, pairAt, linkOf, lengthOf, freeCount, usedCount, freePointer, free, find, fileChain, directory}
+use Rattle.format.specs.Layout.{freePlace, freeCountPlace, usedCountPlace, Slot, system, pairAt, linkOf}
+use Rattle.format.specs.Layout.{lengthOf, freeCount, usedCount, freePointer, free, find, fileChain, directory}
 use Rattle.format.specs.Check.{broken}
 use Rattle.format.specs.Modules.{Module, sectorsFor}
 use Rattle.format.specs.ModuleLaws.{sectors-fit}
 use Rattle.format.specs.Effects.{needed, growth, systemWrite, saveWrites, deleteWrites}
 use Rattle.format.specs.CallLaws.{save-ok, delete-ok, rename-ok, protect-ok}
-use Rattle.soundness.specs.Counts.{OneOf}
 use Rattle.soundness.specs.Filed.{entriesOf, chainsOf}
 use Rattle.soundness.specs.Frames.{laid-sum}
 use Rattle.soundness.specs.Laid.{Laid, laid-one, free-few, sound-laid, laid-sound}
@@ -34,12 +35,12 @@ use Rattle.soundness.specs.Found.{Found, found, home-once, file-last}
 use Rattle.soundness.specs.Pointers.{Bounded, Pointable, chain-pointable}
 use Rattle.soundness.specs.SystemWrites.{system-free, system-freed, system-used}
 use Rattle.soundness.specs.WriteFacts.{Removable, removable, savable}
-use Rattle.soundness.specs.ListedWrites.{all-take, allTaken, taken-long}
+use Rattle.soundness.specs.ListedWrites.{allTaken, taken-long}
 use Rattle.soundness.specs.Reported.{reports-7}
 use Rattle.format.specs.Calls.{afterCheck}
 use Rattle.history.specs.Demand3.{Handed}
-use Rattle.history.specs.Saving.{chain-rest}
-use Rattle.history.specs.Delete.{delete-leaves}
+use Rattle.history.specs.SaveSectors.{chain-rest}
+use Rattle.history.specs.DeleteLeaves.{delete-leaves}
 use Rattle.history.specs.Cuts.{Writing, save, delete, rename, protect, asCommand, writesOn, afterCut, CutReports}
 use Rattle.history.specs.CutWrites.{Within, Into, into-other, first-into, later-low, save-before, delete-after}
 use Rattle.history.specs.FiledFrame.{frame-met}

@@ -7,13 +7,15 @@ use native.Mathlib.Omega.{arith}
 use native.Mathlib.Decide.{ℕ-discrete, decLe}
 use mathlib.Core.Bool.{cond}
 use mathlib.Core.Option.{some}
-use mathlib.Core.List.{List, [], _∷_, map, _++_}
+use mathlib.Core.List.{List, [], _∷_, _++_}
 use lib.ListN.{length, set, take, drop, length-append, length-map, take-append-drop, length-set}
 use lib.Seq.{take-append-le, take-all}
 use lib.Dec.{leb}
 use borrow.Author.Tests.{eqb-true, le-leb, lt-leb}
-use Rattle.format.specs.Lists.{times, lastOr}
-use Rattle.format.specs.ListLaws.{All, done, _also_, head-of, tail-of, all-map, all-join, times-here, times-past, times-join, all-at, at-all}
+use Rattle.lists.specs.Lists.{times, lastOr}
+use Rattle.lists.specs.ListLaws.{All, done, _also_, head-of, tail-of, all-map, all-join, times-here}
+use Rattle.lists.specs.ListLaws.{times-past, times-join, all-at, at-all, all-take, all-drop, map-take}
+use Rattle.lists.specs.Counts.{times-more}
 use Rattle.format.specs.Refusals.{ok}
 use Rattle.format.specs.Geometry.{Geometry, Next, Disc, sector, Write, written}
 use Rattle.format.specs.GeometryLaws.{sector-other, sector-same, Full}
@@ -22,15 +24,14 @@ use Rattle.format.specs.Check.{broken}
 use Rattle.format.specs.Modules.{Module, sectorsFor}
 use Rattle.format.specs.Effects.{needed, growth, saveWrites, deleteWrites, systemWrite}
 use Rattle.format.specs.CallLaws.{save-ok, delete-ok, rename-ok, protect-ok}
-use Rattle.soundness.specs.Counts.{times-more}
 use Rattle.soundness.specs.WriteFacts.{Removable, removable, Savable, savable}
 use Rattle.soundness.specs.Laid.{free-is, sound-laid}
 use Rattle.soundness.specs.Found.{found, file-last}
 use Rattle.soundness.specs.Pointers.{Bounded}
 use Rattle.soundness.specs.SystemWrites.{system-directory}
 use Rattle.soundness.specs.ChainWrites.{written-join}
-use Rattle.soundness.specs.ListedWrites.{places, all-take, allTaken, entryHome, home-lies, taken-places}
-use Rattle.history.specs.Delete.{delete-leaves}
+use Rattle.soundness.specs.ListedWrites.{places, allTaken, entryHome, home-lies, taken-places}
+use Rattle.history.specs.DeleteLeaves.{delete-leaves}
 use Rattle.history.specs.Cuts.{Writing, save, delete, rename, protect, writesOn, isDone}
 
 -- d differs from r as said above
@@ -42,16 +43,6 @@ within-self : {G : Geometry} {d : Disc} → Within G d d
 within-self = record { pointer = refl; stays = λ n h. refl }
 
 -- ---- parts of lists
-
-all-drop : {A : Type 0} {P : A → Type 0} (k : ℕ) {xs : List A} → All P xs → All P (drop k xs)
-all-drop zero h = h
-all-drop (suc k) done = done
-all-drop (suc k) (h also hs) = all-drop k hs
-
-pub map-take : {A B : Type 0} (f : A → B) (k : ℕ) (xs : List A) → take k (map f xs) ≡ map f (take k xs)
-map-take f zero xs = refl
-map-take f (suc k) [] = refl
-map-take f (suc k) (x ∷ xs) = ap (λ (r : List _). f x ∷ r) (map-take f k xs)
 
 of-places : {P : ℕ → Type 0} (ws : List Write) → All P (places ws) → All (λ w. P (w .at)) ws
 of-places [] h = done

@@ -10,7 +10,7 @@ use mathlib.Core.Option.{some}
 use mathlib.Core.List.{List, [], _∷_}
 use lib.ListN.{length, take}
 use lib.Dec.{leb, ltb}
-use Rattle.format.specs.Lists.{byte, same, times, lastOr}
+use Rattle.lists.specs.Lists.{byte, same, times, lastOr}
 use Rattle.format.specs.Refusals.{Try, Refusal, ok, _>>=_}
 use Rattle.format.specs.Geometry.{Format, Geometry, geometry, Disc, sector, cut, Write}
 use Rattle.format.specs.Names.{stored}
@@ -19,7 +19,8 @@ use Rattle.format.specs.Modules.{Module}
 use Rattle.format.specs.Check.{filesHold}
 use Rattle.format.specs.Effects.{body, unmet}
 use Rattle.format.specs.Writes.{writesIn}
-use Rattle.format.specs.Calls.{saveOn, deleteOn, renameOn, protectOn, changed, Answer, answerBy, ChangeAnswer, afterCheck, afterRead, afterSave, afterDelete, afterRename, afterProtect, afterRepair}
+use Rattle.format.specs.Calls.{saveOn, deleteOn, renameOn, protectOn, changed, Answer, answerBy, ChangeAnswer}
+use Rattle.format.specs.Calls.{afterCheck, afterRead, afterSave, afterDelete, afterRename, afterProtect, afterRepair}
 use Rattle.history.specs.History.{Command, nineOf, openingBook}
 use Rattle.history.specs.Demand3.{isSound, Handed}
 

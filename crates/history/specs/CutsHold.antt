@@ -3,13 +3,13 @@
 use mathlib.Core.Path.{_≡_, refl, sym, ap, _∙_, subst}
 use Prim.Native.Nat.{ℕ}
 use mathlib.Core.Bool.{Bool, true, false, not, cond, _||_, true≢false}
-use mathlib.Core.Option.{Option, none, some}
+use mathlib.Core.Option.{Option, none, some, Option·some-injective}
 use mathlib.Core.List.{List, [], _∷_, map, head?}
 use lib.ListN.{length, take}
-use Rattle.format.specs.Lists.{same, consIf, filter}
-use Rattle.format.specs.ListLaws.{filter-yes, filter-no, same-true}
+use Rattle.lists.specs.Lists.{same, consIf, filter}
+use Rattle.lists.specs.ListLaws.{filter-yes, filter-no, same-true, all-take, true-same, Same, equal, unequal, same-or-not}
 use Rattle.format.specs.Refusals.{ok, _>>=_, _orRefuse_, number}
-use Rattle.format.specs.RefusalLaws.{refused-ok, some-is}
+use Rattle.format.specs.RefusalLaws.{refused-ok}
 use Rattle.format.specs.Geometry.{Format, unknown, stated, Geometry, geometry, Disc, cut, flat, Write, written}
 use Rattle.format.specs.Arrangements.{Arranged}
 use Rattle.format.specs.Formats.{GoodFormat, stated-cases}
@@ -23,17 +23,16 @@ use Rattle.format.specs.Writes.{writeList}
 use Rattle.format.specs.WriteLaws.{held-list}
 use Rattle.format.specs.CallLaws.{repair-done}
 use Rattle.format.specs.Calls.{readOn, replayOn, repairOn, asked, answered, readAnswerBy, afterRead, afterReplay, afterRepair}
-use Rattle.soundness.specs.NameCounts.{true-same, Same, equal, unequal, same-or-not}
 use Rattle.soundness.specs.Filed.{Filed, rules-filed, filed-rules, entries-are}
 use Rattle.soundness.specs.Laid.{laid-sound}
-use Rattle.soundness.specs.ListedWrites.{all-take}
 use Rattle.history.specs.History.{File, Book, named, nineOf, renamed, openingBook}
 use Rattle.history.specs.History as history
 use Rattle.history.specs.Demand3.{Handed}
-use Rattle.history.specs.Cuts.{Writing, save, delete, rename, protect, asCommand, writesOn, afterCut, isDone, names, Repaired, Repairs, Mended, CutRepairs}
+use Rattle.history.specs.Cuts.{Writing, save, delete, rename, protect, asCommand, writesOn}
+use Rattle.history.specs.Cuts.{afterCut, isDone, names, Repaired, Repairs, Mended, CutRepairs}
 use Rattle.history.specs.BookFiles.{fileOf, filesOf}
 use Rattle.history.specs.State.{State}
-use Rattle.history.specs.Moments.{gives, read-on}
+use Rattle.history.specs.MomentHolds.{gives, read-on}
 use Rattle.history.specs.Steps.{arranged-here, bounded-here, full-here, opening-state, sound-checked, now-long, now-sized, now-cut}
 use Rattle.history.specs.BlankLaid.{Passes}
 use Rattle.history.specs.BlankStarts.{passes}
@@ -211,7 +210,7 @@ module _ (F : Format) (o : GoodFormat F) (image : List ℕ) (G : Geometry) (g : 
         λ typed nine lent t h.
             read-same F G image _ typed lent g (after-sized F o G (now (take k ws)) ref sized as-long st u)
             (same-readOn before (mended-state F o G (now (take k ws)) ref sized as-long st u) typed (length lent)
-            (λ x e. unnamed x (subst (λ (y : List ℕ). names w y ≡ false) (some-is (sym t ∙ e)) h))),
+            (λ x e. unnamed x (subst (λ (y : List ℕ). names w y ≡ false) (Option·some-injective _ _ (sym t ∙ e)) h))),
       )
 
   both : (done : Bool) → Within G (cond done (written ws (cut F G image)) (cut F G image)) (written (take k ws) (cut F G image))

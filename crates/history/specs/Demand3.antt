@@ -10,14 +10,15 @@ use mathlib.Core.Bool.{Bool, true, false, _&&_}
 use mathlib.Core.Option.{some}
 use mathlib.Core.List.{List, [], _∷_}
 use lib.ListN.{length, take, getElem?}
-use Rattle.format.specs.Lists.{all, any, times}
+use Rattle.lists.specs.Lists.{all, any, times}
 use Rattle.format.specs.Refusals.{ABSENT, refused, ok, number}
 use Rattle.format.specs.Geometry.{Format, Geometry, geometry, sectors, Disc, cut}
 use Rattle.format.specs.Names.{stored}
 use Rattle.format.specs.Layout.{freeCount, chainEnds, directoryPointer, freePointer, firstOf, free, entries, places}
 use Rattle.format.specs.Modules.{Module}
 use Rattle.format.specs.Calls.{CheckAnswer, readAnswerBy, afterRead, afterSave, afterCheck, afterBlank}
-use Rattle.history.specs.History.{Command, list, read, save, delete, rename, protect, check, view, File, Book, named, run, bookAfter, openingBook, says, sumDirectory, sumFiles, sumFree, saveSays}
+use Rattle.history.specs.History.{Command, list, read, save, delete, rename, protect, check, view, File, Book, named}
+use Rattle.history.specs.History.{run, bookAfter, openingBook, says, sumDirectory, sumFiles, sumFree, saveSays}
 
 -- the check's answer for a sound image
 abbrev pub isSound : CheckAnswer

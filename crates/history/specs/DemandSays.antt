@@ -10,6 +10,7 @@ use mathlib.Core.List.{List, [], _∷_, map}
 use lib.ListN.{length, take, length-map}
 use lib.Seq.{take-all}
 use borrow.Author.Tests.{eq-eqb}
+use Rattle.lists.specs.ListLaws.{map-take}
 use Rattle.format.specs.Refusals.{Try, Refusal, refused, ok, number, valueOr}
 use Rattle.format.specs.RefusalLaws.{refused-ok, ok-is, then-ok}
 use Rattle.format.specs.Geometry.{Format, unknown, stated, Geometry, geometry, cut}
@@ -26,12 +27,13 @@ use Rattle.history.specs.Demand3.{Handed, AllHanded, Moment, Demand3}
 use Rattle.history.specs.Cuts as cuts
 use Rattle.history.specs.Cuts.{Writing, asCommand, afterWriting, afterCut}
 use Rattle.history.specs.Events as events
-use Rattle.history.specs.Events.{Event, happens, imageAfter, Ledger, speaks, silent, waits, pulledBook, afterPulled, afterCommand, afterRepaired, afterNew, followed, settled, ledgerAfter, Stays, Makes, Renews, HandedEvent, AllHandedEvents, Said, Demand3Pulled, Call, command, pulled, repair, replay, blank, eventOf, HandedCall, AllHandedCalls, Demand3Calls}
+use Rattle.history.specs.Events.{Event, happens, imageAfter, Ledger, speaks, silent, waits, pulledBook, afterPulled, afterCommand, afterRepaired}
+use Rattle.history.specs.Events.{afterNew, followed, settled, ledgerAfter, Stays, Makes, Renews, HandedEvent, AllHandedEvents, Said}
+use Rattle.history.specs.Events.{Demand3Pulled, Call, command, pulled, repair, replay, blank, eventOf, HandedCall, AllHandedCalls, Demand3Calls}
 use Rattle.history.specs.Steps.{arranged-here, full-here, checked-sound, now-long}
 use Rattle.history.specs.BlankStarts.{blank-long}
-use Rattle.history.specs.CutWrites.{map-take}
 use Rattle.history.specs.Writings.{writing-step, writing-stays, cut-accepted}
-use Rattle.history.specs.Demand.{demand-3-pulled-of, demand-3-pulled}
+use Rattle.history.specs.DemandHolds.{demand-3-pulled-of, demand-3-pulled}
 
 -- ---- each call is of the kind that its event says
 

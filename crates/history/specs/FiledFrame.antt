@@ -5,13 +5,14 @@ use mathlib.Core.Path.{_≡_, ap, _∙_}
 use Prim.Native.Nat.{ℕ, _+_, _<_}
 use native.Mathlib.Omega.{arith}
 use mathlib.Core.List.{List, map}
-use Rattle.format.specs.Lists.{joined, times}
-use Rattle.format.specs.ListLaws.{All, map-same, all-at, at-all}
+use Rattle.lists.specs.Lists.{joined, times}
+use Rattle.lists.specs.ListLaws.{All, map-same, all-at, at-all}
 use Rattle.format.specs.Geometry.{Geometry, Disc, sector}
 use Rattle.format.specs.Layout.{inUse, slotsOf, linkOf, directoryPointer}
 use Rattle.format.specs.ChainLaws.{chain-frame}
 use Rattle.soundness.specs.Slots.{slots-same}
-use Rattle.soundness.specs.Filed.{GoodChain, entriesOf, chainsOf, Counted, Filed}
+use Rattle.format.specs.RuleLaws.{GoodChain, Counted}
+use Rattle.soundness.specs.Filed.{entriesOf, chainsOf, Filed}
 use Rattle.soundness.specs.Frames.{files-frame}
 use Rattle.history.specs.BookFiles.{fileOf, filesOf, fileOf-frame}
 

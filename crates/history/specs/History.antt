@@ -7,7 +7,7 @@ use mathlib.Core.Option.{Option, none, some, Option·getD}
 use mathlib.Core.List.{List, [], _∷_, map}
 use lib.ListN.{length}
 use lib.Dec.{eqb, ltb}
-use Rattle.format.specs.Lists.{any, filter, same, sum}
+use Rattle.lists.specs.Lists.{any, filter, same, sum}
 use Rattle.format.specs.Refusals.{Try, Refusal, NAME, TAKEN, MODULE, ROOM, NOT-PLAIN, SHORT, refused, ok, _>>=_, _>>_, refuse_if_, _orRefuse_}
 use Rattle.format.specs.Geometry.{Format, Geometry, sectors, Disc}
 use Rattle.format.specs.Names.{stored}

@@ -5,17 +5,17 @@ use mathlib.Core.Path.{_≡_, refl, sym, ap, ap₂, _∙_, subst}
 use Prim.Native.Nat.{ℕ, zero, suc}
 use mathlib.Core.List.{List, [], _∷_, map}
 use lib.ListN.{length, take}
-use Rattle.format.specs.ListLaws.{All, all-map}
+use Rattle.lists.specs.ListLaws.{All, all-map, all-take}
 use Rattle.format.specs.Refusals.{ok}
 use Rattle.format.specs.RefusalLaws.{ok-is, then-ok}
 use Rattle.format.specs.Geometry.{Format, stated, arranged, Geometry, geometry, Disc, cut, Write}
 use Rattle.format.specs.GeometryLaws.{Full}
 use Rattle.format.specs.WholeWrites.{Whole}
-use Rattle.soundness.specs.ListedWrites.{all-take}
 use Rattle.format.specs.Calls.{Answer, answered, CheckAnswer, ListAnswer, ReadAnswer}
 use Rattle.format.specs.Moving.{Arrangement, movedForm, movedAnswer, Moves}
 use Rattle.format.specs.MovingLaws.{moved-sectors, changed-moved, moves, card-moves, card-is}
-use Rattle.history.specs.History.{openingBook, Command, list, read, save, delete, rename, protect, check, view, leaving, step, run, Book, entered, bookAfter}
+use Rattle.history.specs.History.{openingBook, Command, list, read, save, delete, rename, protect}
+use Rattle.history.specs.History.{check, view, leaving, step, run, Book, entered, bookAfter}
 use Rattle.history.specs.Cuts.{Writing, asCommand, writesOn, afterWriting, cutOn, afterCut}
 use Rattle.history.specs.Events.{whereAccepted, happens, imageAfter, Call, command, pulled, repair, replay, blank, eventOf}
 use Rattle.history.specs.Quiet.{writing-whole}
@@ -53,7 +53,8 @@ opening-moved F A own other s G g = ap (openingBook G) (moved-sectors F own A ot
 
 -- the card's arrangement, as the calls' contracts name it
 pub card-run : (image : List ℕ) (cs : List Command)
-    → run (stated 10 1) (movedForm (stated 10 0) (stated 10 1 .arrangement) image) cs ≡ movedForm (stated 10 0) (stated 10 1 .arrangement) (run (stated 10 0) image cs)
+    → run (stated 10 1) (movedForm (stated 10 0) (stated 10 1 .arrangement) image) cs
+    ≡ movedForm (stated 10 0) (stated 10 1 .arrangement) (run (stated 10 0) image cs)
 card-run image cs =
     ap (λ (F : Format). run F (movedForm (stated 10 0) (stated 10 1 .arrangement) image) cs) card-is
     ∙ run-moved (stated 10 0) (stated 10 1 .arrangement) card-moves image cs
@@ -89,7 +90,8 @@ module _ (F : Format) (own : Arrangement F (F .arrangement)) (A : List ℕ) (oth
       by zero = refl
       by (suc n) = refl
 
-  pub call-moved : (image : List ℕ) (c : Call) → happens (arranged A F) (form image) (eventOf (arranged A F) c) ≡ movedAnswer F A (happens F image (eventOf F c))
+  pub call-moved : (image : List ℕ) (c : Call)
+      → happens (arranged A F) (form image) (eventOf (arranged A F) c) ≡ movedAnswer F A (happens F image (eventOf F c))
   unfolding happens eventOf
   call-moved image (command c) = step-moved F A (moves F own A other) image c
   call-moved image (pulled w buffer k) = pulled-moved image w buffer k

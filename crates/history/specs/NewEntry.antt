@@ -8,16 +8,17 @@ use mathlib.Core.Option.{none}
 use mathlib.Core.List.{List, [], _∷_, map, _++_, append-assoc}
 use lib.ListN.{length, take, drop, replicate, length-append}
 use lib.Seq.{take-at, getD-append-add}
-use Rattle.format.specs.Lists.{range, lastOr, byte, word, wordAt}
-use Rattle.format.specs.ListLaws.{All, range-all, all-mapped}
+use Rattle.lists.specs.Lists.{range, lastOr, byte, word, wordAt}
+use Rattle.lists.specs.ListLaws.{All, range-all, all-mapped}
 use Rattle.format.specs.Geometry.{Geometry, sectors, stop, go, pointed, Disc, sector}
 use Rattle.format.specs.GeometryLaws.{pointed-stop}
 use Rattle.format.specs.Names.{legalStored}
-use Rattle.format.specs.Layout.{inUsePlace, slotsEach, namePlace, lengthPlace, firstPlace, lastPlace, attributePlace, attribute, isAttribute, Slot, freeSlot, inUse, slotAt, slotsAt, pairAt, pairBytes, linkOf}
+use Rattle.format.specs.Layout.{inUsePlace, slotsEach, namePlace, lengthPlace, firstPlace, lastPlace, attributePlace}
+use Rattle.format.specs.Layout.{attribute, isAttribute, Slot, freeSlot, inUse, slotAt, slotsAt, pairAt, pairBytes, linkOf}
 use Rattle.format.specs.Effects.{withSlot, headOf, entryBytes}
 use Rattle.soundness.specs.Slots.{isUsed, empty-free, inUse-one, inUse-none, slotBytes, zeros-slot}
 use Rattle.soundness.specs.SlotWrites.{withSlot-length, withSlot-head, withSlot-count, withSlot-others, withSlot-here}
-use Rattle.soundness.specs.Filed.{GoodEntry}
+use Rattle.format.specs.RuleLaws.{GoodEntry}
 use Rattle.soundness.specs.Pointers.{Bounded, Pointable, to-sector, pair-back}
 
 module _ (G : Geometry) (u : Bounded G) (nine ns : List ℕ) (long : length nine ≡ 9) (few : length ns < 65536) where
@@ -54,7 +55,8 @@ module _ (G : Geometry) (u : Bounded G) (nine ns : List ℕ) (long : length nine
   unfolding after-name
   entry-attribute = at-after 6
 
-  pub new-entry-good : (home index : ℕ) → legalStored nine ≡ true → 0 < length ns → GoodEntry (record { home = home; index = index; bytes = entryBytes G nine ns })
+  pub new-entry-good : (home index : ℕ) → legalStored nine ≡ true → 0 < length ns
+      → GoodEntry (record { home = home; index = index; bytes = entryBytes G nine ns })
   new-entry-good home index legal some-file =
       record { legal = ap legalStored entry-name ∙ legal; some-sector = omega (arith, entry-count); attribute-right = ap isAttribute entry-attribute }
 
@@ -69,7 +71,8 @@ module _ (e : List ℕ) (sixteen : length e ≡ 16) where
 
   pub new-directory-link : (G : Geometry) → linkOf G (newDirectory e) ≡ stop
   new-directory-link G =
-      ap₂ (λ (a b : ℕ). pointed G a b) (withSlot-head (replicate 256 0) 0 1 e sixteen 0 (omega arith)) (withSlot-head (replicate 256 0) 0 1 e sixteen 1 (omega arith))
+      ap₂ (λ (a b : ℕ). pointed G a b) (withSlot-head (replicate 256 0) 0 1 e sixteen 0 (omega arith))
+      (withSlot-head (replicate 256 0) 0 1 e sixteen 1 (omega arith))
       ∙ pointed-stop G 0 0 refl
 
   pub new-directory-count : byte (newDirectory e) inUsePlace ≡ 1
@@ -81,7 +84,8 @@ module _ (e : List ℕ) (sixteen : length e ≡ 16) where
   unfolding slotsAt slotAt
   new-directory-slots d n at-n used =
       let first : slotAt d n 0 ≡ record { home = n; index = 0; bytes = e } =
-      ap (λ (r : List ℕ). record { home = n; index = 0; bytes = r }) (ap (λ (r : List ℕ). slotBytes r 0) at-n ∙ withSlot-here (replicate 256 0) 0 1 e sixteen (omega arith)) in
+      ap (λ (r : List ℕ). record { home = n; index = 0; bytes = r })
+      (ap (λ (r : List ℕ). slotBytes r 0) at-n ∙ withSlot-here (replicate 256 0) 0 1 e sixteen (omega arith)) in
       let none : All (λ t. freeSlot t ≡ true) (map (slotAt d n) (range 1 (slotsEach - 1))) =
       all-mapped (slotAt d n) (range-all 1 (slotsEach - 1) (λ j a b.
       ap (λ (r : List ℕ). freeSlot (record { home = n; index = j; bytes = r }))

@@ -8,8 +8,9 @@ use mathlib.Core.Bool.{Bool, cond, true, false}
 use mathlib.Core.List.{List}
 use lib.ListN.{length, take}
 use borrow.Author.Tests.{eqb-true}
-use Rattle.format.specs.Lists.{times}
-use Rattle.format.specs.ListLaws.{All, all-map, times-past}
+use Rattle.lists.specs.Lists.{times}
+use Rattle.lists.specs.ListLaws.{All, all-map, times-past, all-take}
+use Rattle.lists.specs.Permutations.{Perm}
 use Rattle.format.specs.Refusals.{ok}
 use Rattle.format.specs.Geometry.{Geometry, Disc, Write, sector, written}
 use Rattle.format.specs.GeometryLaws.{Full}
@@ -19,11 +20,10 @@ use Rattle.format.specs.Effects.{repairWrites}
 use Rattle.format.specs.WriteLaws.{WholeOn}
 use Rattle.format.specs.WholeWrites.{written-full}
 use Rattle.format.specs.CallLaws.{save-ok, delete-ok, rename-ok, protect-ok}
-use Rattle.format.specs.Permutations.{Perm}
 use Rattle.soundness.specs.Filed.{entriesOf, chainsOf, Filed, directory-is}
 use Rattle.soundness.specs.Laid.{Laid, laid-one, free-is, sound-laid}
 use Rattle.soundness.specs.Pointers.{Bounded}
-use Rattle.soundness.specs.ListedWrites.{all-take, save-listed, delete-listed, rename-listed, protect-listed}
+use Rattle.soundness.specs.ListedWrites.{save-listed, delete-listed, rename-listed, protect-listed}
 use Rattle.history.specs.History.{Book, accepted, sumDirectory}
 use Rattle.history.specs.Demand3.{Handed}
 use Rattle.history.specs.Cuts.{Writing, save, delete, rename, protect, asCommand, writesOn, isDone}

@@ -9,22 +9,23 @@ use mathlib.Core.Bool.{true}
 use mathlib.Core.List.{List, [], _∷_, map, _++_}
 use lib.ListN.{length, take, drop, length-append}
 use lib.Seq.{sets, take-at, getD-set-same, take-set-le, sets-eq, length-sets}
-use Rattle.format.specs.Lists.{sum, times, byte, Once}
-use Rattle.format.specs.ListLaws.{_also_, head-of, tail-of, all-map, all-join, all-left, all-right, at-all}
+use Rattle.lists.specs.Lists.{sum, times, byte, Once}
+use Rattle.lists.specs.ListLaws.{_also_, head-of, tail-of, all-map, all-join, all-left, all-right, at-all, equal, unequal, same-or-not}
 use Rattle.format.specs.Geometry.{Geometry, sectors, pointed, Disc, sector, written}
 use Rattle.format.specs.GeometryLaws.{sector-other, sector-same, Full, sector-full, full-set}
 use Rattle.format.specs.Names.{legalStored}
 use Rattle.format.specs.Layout.{inUsePlace, slotStart, namePlace, lengthPlace, firstPlace, lastPlace, attributePlace, isAttribute, Slot, inUse, nameOf, lengthOf, attributeOf, slotsAt, linkOf, firstOf, lastOf}
 use Rattle.format.specs.ChainLaws.{SameLink, chain-frame}
 use Rattle.format.specs.Effects.{slotWrite, reading}
-use Rattle.soundness.specs.Counts.{once-parts}
-use Rattle.soundness.specs.Places.{Place}
-use Rattle.soundness.specs.Stores.{getD-sets-off}
-use Rattle.soundness.specs.NameCounts.{equal, unequal, same-or-not, called, called-none, called-at, called-here, called-past}
+use Rattle.lists.specs.Counts.{once-parts, once-apart}
+use Rattle.lists.specs.Places.{Place}
+use Rattle.lists.specs.Stores.{getD-sets-off}
+use Rattle.format.specs.NameCounts.{called, called-none, called-at, called-here, called-past}
 use Rattle.soundness.specs.Slots.{isUsed, place-used, slots-same}
 use Rattle.soundness.specs.SlotWrites.{store-head, withBytes, SlotChange, stored-change, change-link, change-sector, change-slots}
-use Rattle.soundness.specs.Filed.{GoodEntry, good-used, entriesOf, chainsOf, Counted}
-use Rattle.soundness.specs.Laid.{Laid, once-apart}
+use Rattle.format.specs.RuleLaws.{GoodEntry, Counted}
+use Rattle.soundness.specs.Filed.{good-used, entriesOf, chainsOf}
+use Rattle.soundness.specs.Laid.{Laid}
 use Rattle.soundness.specs.Frames.{file-frame, files-frame, chains-at, lengths-at}
 use Rattle.soundness.specs.Found.{home-once, home-low, home-high, home-apart, slot-length, slot-bytes, Found}
 use Rattle.history.specs.BookFiles.{fileOf, filesOf, filesOf-place}
@@ -45,7 +46,8 @@ pub record EntryChanged (G : Geometry) (d d′ : Disc) (dir frees : List ℕ) (s
 
 module _ {G : Geometry} {d : Disc} {dir frees nine : List ℕ} (l : Laid G d dir frees) (z : Full G d) (s : Slot) (f : Found G d dir nine s) where
   -- ---- any bytes that keep what a chain needs
-  module _ (k : ℕ) (xs : List ℕ) (fit : k + length xs ≤ 16) (keeps : (j : ℕ) → lengthPlace ≤ j → j < attributePlace → byte (sets (s .bytes) k xs) j ≡ byte (s .bytes) j)
+  module _ (k : ℕ) (xs : List ℕ) (fit : k + length xs ≤ 16)
+      (keeps : (j : ℕ) → lengthPlace ≤ j → j < attributePlace → byte (sets (s .bytes) k xs) j ≡ byte (s .bytes) j)
       (legal′ : legalStored (nameOf (changedSlot s k xs)) ≡ true) (attribute′ : isAttribute (attributeOf (changedSlot s k xs)) ≡ true)
       (fresh : called (nameOf (changedSlot s k xs)) (entriesOf d dir) ≤ called (nameOf (changedSlot s k xs)) (s ∷ [])) where
     d′ : Disc
@@ -94,7 +96,8 @@ module _ {G : Geometry} {d : Disc} {dir frees nine : List ℕ} (l : Laid G d dir
               let p = place-used (change-sector s (f .slot-of) change) (f .used) used′ in
               let as-many : length (inUse (slotsAt d′ (s .home))) ≡ length (inUse (slotsAt d (s .home))) =
               ap length (p .now) ∙ length-append (p .pre) _ ∙ sym (ap length (p .was) ∙ length-append (p .pre) _) in
-              let count : byte (sector d′ (s .home)) inUsePlace ≡ byte (sector d (s .home)) inUsePlace = ap (λ (r : List ℕ). byte r inUsePlace) here ∙ store-head (sector d (s .home)) (s .index) k xs fit inUsePlace (omega arith) in
+              let count : byte (sector d′ (s .home)) inUsePlace ≡ byte (sector d (s .home)) inUsePlace =
+              ap (λ (r : List ℕ). byte r inUsePlace) here ∙ store-head (sector d (s .home)) (s .index) k xs fit inUsePlace (omega arith) in
               subst (Counted d′) (sym e) (count ∙ subst (Counted d) e c ∙ sym as-many)
           | no e ↦ rw (other n e, slots-same d d′ n (other n e)) c
         ]
@@ -109,8 +112,9 @@ module _ {G : Geometry} {d : Disc} {dir frees nine : List ℕ} (l : Laid G d dir
         let post = files-frame d′ (p .post) (tail-of (all-right (p .pre) fs)) (λ n h. links n) in
         let mid = file-frame d′ (changedSlot s k xs) first′ last′ long′ (head-of (all-right (p .pre) fs)) (at-all _ (λ n h. links n)) in
         let met : (n : ℕ) → times n (chainsOf G d′ (entriesOf d′ dir)) ≡ times n (chainsOf G d (entriesOf d dir)) = λ n.
+        let was = ap (λ (ss : List Slot). times n (chainsOf G d ss)) (p .was) ∙ chains-at G d (p .pre) (p .post) s n in
         ap (λ (ss : List Slot). times n (chainsOf G d′ ss)) (p .now) ∙ chains-at G d′ (p .pre) (p .post) (changedSlot s k xs) n
-        ∙ omega (arith, ap (times n) (pre .0), ap (times n) (post .0), ap (times n) (mid .0), chains-at G d (p .pre) (p .post) s n, ap (λ (ss : List Slot). times n (chainsOf G d ss)) (p .was)) in
+        ∙ omega (arith, ap (times n) (pre .0), ap (times n) (post .0), ap (times n) (mid .0), was) in
         let o : Once (sectors G) (dir ++ chainsOf G d′ (entriesOf d′ dir) ++ frees) =
         once-parts dir (chainsOf G d (entriesOf d dir)) frees dir (chainsOf G d′ (entriesOf d′ dir)) frees (λ n. omega (arith, met n)) (l .once) in
         record {
@@ -120,10 +124,14 @@ module _ {G : Geometry} {d : Disc} {dir frees nine : List ℕ} (l : Laid G d dir
             in-use-counted = all-map counts′ (l .filed .in-use-counted);
             good-entries = rw (p .now) (all-join (all-left (p .pre) _ gs) (good′ also tail-of (all-right (p .pre) gs)));
             names-differ = λ x.
-                let now : called x (entriesOf d′ dir) ≡ called x (p .pre) + called x (changedSlot s k xs ∷ []) + called x (p .post) = ap (called x) (p .now) ∙ called-at x (p .pre) (p .post) (changedSlot s k xs) in
-                let was : called x (entriesOf d dir) ≡ called x (p .pre) + called x (s ∷ []) + called x (p .post) = ap (called x) (p .was) ∙ called-at x (p .pre) (p .post) s in
+                let now : called x (entriesOf d′ dir) ≡ called x (p .pre) + called x (changedSlot s k xs ∷ []) + called x (p .post) =
+                ap (called x) (p .now) ∙ called-at x (p .pre) (p .post) (changedSlot s k xs) in
+                let was : called x (entriesOf d dir) ≡ called x (p .pre) + called x (s ∷ []) + called x (p .post) =
+                ap (called x) (p .was) ∙ called-at x (p .pre) (p .post) s in
                 elim (same-or-not (nameOf (changedSlot s k xs)) x) [
-                  | equal q r ↦ omega (arith, now, was, called-here x (changedSlot s k xs) [] q, called-none x, subst (λ (y : List ℕ). called y (entriesOf d dir) ≤ called y (s ∷ [])) q fresh)
+                  | equal q r ↦
+                      let few = subst (λ (y : List ℕ). called y (entriesOf d dir) ≤ called y (s ∷ [])) q fresh in
+                      omega (arith, now, was, called-here x (changedSlot s k xs) [] q, called-none x, few)
                   | unequal q r ↦ omega (arith, now, was, called-past x (changedSlot s k xs) [] q, called-none x, l .filed .names-differ x)
                 ];
             good-chains = rw (p .now) (all-join (pre .1) (mid .1 also post .1));
@@ -132,7 +140,10 @@ module _ {G : Geometry} {d : Disc} {dir frees nine : List ℕ} (l : Laid G d dir
           free-chain = rw sys (chain-frame d′ (l .free-chain) (at-all frees (λ n h. links n)));
           once = o;
           free-counted = rw sys (l .free-counted);
-          used-counted = rw sys (l .used-counted ∙ sym (ap (λ (ss : List Slot). sum (map lengthOf ss)) (p .now) ∙ lengths-at (p .pre) (p .post) (changedSlot s k xs) ∙ omega (arith, long′, lengths-at (p .pre) (p .post) s, ap (λ (ss : List Slot). sum (map lengthOf ss)) (p .was))));
+          used-counted =
+              let was = ap (λ (ss : List Slot). sum (map lengthOf ss)) (p .was) ∙ lengths-at (p .pre) (p .post) s in
+              let now = ap (λ (ss : List Slot). sum (map lengthOf ss)) (p .now) ∙ lengths-at (p .pre) (p .post) (changedSlot s k xs) in
+              rw sys (l .used-counted ∙ sym (now ∙ omega (arith, long′, was)));
         }
 
     entry-changed : EntryChanged G d (written (slotWrite d s k xs ∷ []) d) dir frees s (nameOf (changedSlot s k xs))
@@ -140,21 +151,26 @@ module _ {G : Geometry} {d : Disc} {dir frees nine : List ℕ} (l : Laid G d dir
     entry-changed =
         record {
           laid = laid′;
-          full = full-set z (s .home) _ (length-sets (sector d (s .home)) (slotStart (s .index) + k) xs ∙ sector-full z (s .home) (home-high (l .filed) s (f .slot-of)));
+          full = full-set z (s .home) _
+              (length-sets (sector d (s .home)) (slotStart (s .index) + k) xs ∙ sector-full z (s .home) (home-high (l .filed) s (f .slot-of)));
           bytes = sets (s .bytes) k xs;
           entries = entries-place;
           name = refl;
-          place = filesOf-place d′ dir (l .filed .good-chains) entries-place (λ n h. other n (λ e. omega (arith, home-apart (l .filed) s (f .slot-of), ap (λ (m : ℕ). times m (chainsOf G d (entriesOf d dir))) e))) first′ last′ long′;
+          place = filesOf-place d′ dir (l .filed .good-chains) entries-place
+              (λ n h. other n (λ e. omega (arith, home-apart (l .filed) s (f .slot-of), ap (λ (m : ℕ). times m (chainsOf G d (entriesOf d dir))) e)))
+              first′ last′ long′;
         }
 
   -- ---- the two commands
 
-  pub renamed-entry : (nine′ : List ℕ) → length nine′ ≡ 9 → legalStored nine′ ≡ true → called nine′ (entriesOf d dir) ≡ 0 → EntryChanged G d (written (slotWrite d s namePlace nine′ ∷ []) d) dir frees s nine′
+  pub renamed-entry : (nine′ : List ℕ) → length nine′ ≡ 9 → legalStored nine′ ≡ true → called nine′ (entriesOf d dir) ≡ 0
+      → EntryChanged G d (written (slotWrite d s namePlace nine′ ∷ []) d) dir frees s nine′
   renamed-entry nine′ long legal fresh =
       let sixteen = slot-length (l .filed) s (f .slot-of) z in
       let name′ : nameOf (changedSlot s namePlace nine′) ≡ nine′ =
       ap (take 9) (sets-eq nine′ (s .bytes) namePlace (omega arith)) ∙ take-at nine′ (drop (namePlace + length nine′) (s .bytes)) 9 long in
-      let past : (j : ℕ) → lengthPlace ≤ j → byte (sets (s .bytes) namePlace nine′) j ≡ byte (s .bytes) j = λ j h. getD-sets-off nine′ (s .bytes) namePlace j 0 (λ a. omega arith) in
+      let past : (j : ℕ) → lengthPlace ≤ j → byte (sets (s .bytes) namePlace nine′) j ≡ byte (s .bytes) j = λ j h.
+      getD-sets-off nine′ (s .bytes) namePlace j 0 (λ a. omega arith) in
       subst (EntryChanged G d (written (slotWrite d s namePlace nine′ ∷ []) d) dir frees s) name′
       (entry-changed namePlace nine′ (omega arith) (λ j h k. past j h) (ap legalStored name′ ∙ legal)
       (ap isAttribute (past attributePlace (omega arith)) ∙ f .good .attribute-right)
@@ -164,7 +180,10 @@ module _ {G : Geometry} {d : Disc} {dir frees nine : List ℕ} (l : Laid G d dir
   protected-entry a e =
       let sixteen = slot-length (l .filed) s (f .slot-of) z in
       let name′ : nameOf (changedSlot s attributePlace (a ∷ [])) ≡ nameOf s = take-set-le 9 (s .bytes) attributePlace a (omega arith) in
+      let all = ap (λ (x : List ℕ). called x (entriesOf d dir)) name′ in
+      let own = ap (λ (x : List ℕ). called x (s ∷ [])) name′ in
       subst (EntryChanged G d (written (slotWrite d s attributePlace (a ∷ []) ∷ []) d) dir frees s) name′
-      (entry-changed attributePlace (a ∷ []) (omega arith) (λ j h k. getD-sets-off (a ∷ []) (s .bytes) attributePlace j 0 (λ i. absurd (omega arith))) (ap legalStored name′ ∙ f .good .legal)
+      (entry-changed attributePlace (a ∷ []) (omega arith) (λ j h k. getD-sets-off (a ∷ []) (s .bytes) attributePlace j 0 (λ i. absurd (omega arith)))
+      (ap legalStored name′ ∙ f .good .legal)
       (ap isAttribute (getD-set-same (s .bytes) attributePlace a 0 (omega arith)) ∙ e)
-      (omega (arith, ap (λ (x : List ℕ). called x (entriesOf d dir)) name′, l .filed .names-differ (nameOf s), ap (λ (x : List ℕ). called x (s ∷ [])) name′, called-here (nameOf s) s [] refl)))
+      (omega (arith, all, l .filed .names-differ (nameOf s), own, called-here (nameOf s) s [] refl)))

@@ -4,14 +4,15 @@ use mathlib.Core.Path.{_≡_, sym, ap, _∙_, subst}
 use mathlib.Core.Logic.{_≢_}
 use Prim.Native.Nat.{ℕ, _+_, _≤_, _<_}
 use native.Mathlib.Omega.{arith}
-use mathlib.Core.Option.{none, some}
+use mathlib.Core.Option.{none, some, Option·some-injective}
 use mathlib.Core.List.{List, [], _∷_}
 use lib.ListN.{length, set, drop}
 use lib.Seq.{set-getD, getD-take, getD-drop}
 use borrow.Author.Tests.{eqb-true}
-use Rattle.format.specs.Lists.{byte}
+use Rattle.lists.specs.Lists.{byte}
+use Rattle.lists.specs.Stores.{sets-again, sets-same}
 use Rattle.format.specs.Refusals.{ok, _>>=_, _>>_, refuse_if_, _orRefuse_}
-use Rattle.format.specs.RefusalLaws.{refused-ok, some-is}
+use Rattle.format.specs.RefusalLaws.{refused-ok}
 use Rattle.format.specs.Geometry.{Format, unknown, stated, Geometry, sectors, Disc, sector, cut, flat, Write, written}
 use Rattle.format.specs.Formats.{GoodFormat, stated-cases}
 use Rattle.format.specs.GeometryLaws.{no-disc, geometry-ok, Full, sector-full, sector-again, flat-cut}
@@ -23,8 +24,8 @@ use Rattle.format.specs.Writes.{writeList}
 use Rattle.format.specs.WriteLaws.{list-long}
 use Rattle.format.specs.Calls.{renameOn, ChangeAnswer, changeAnswerBy}
 use Rattle.format.specs.CallLaws.{Renamed, rename-ok}
-use Rattle.soundness.specs.Stores.{sets-again, sets-same}
-use Rattle.soundness.specs.NameCounts.{called, called-at, called-past, called-none}
+use Rattle.lists.specs.Stores.{sets-again, sets-same}
+use Rattle.format.specs.NameCounts.{called, called-at, called-past, called-none}
 use Rattle.soundness.specs.SlotWrites.{withBytes}
 use Rattle.soundness.specs.Laid.{Laid, sound-laid}
 use Rattle.soundness.specs.Found.{home-high, slot-bytes, Found, found, find-at, find-none, not-found}
@@ -67,11 +68,11 @@ module _ {G : Geometry} {d : Disc} (z : Full G d) {a b b′ c : List ℕ} {ws vs
   found-again : find G (written ws d) (q′ .nine) ≡ some (withBytes (q .s) (first .bytes))
   found-again =
       let p = first .entries in
-      ap (find G (written ws d)) (some-is (sym (q′ .typed) ∙ same ∙ q .typed′))
+      ap (find G (written ws d)) (Option·some-injective _ _ (sym (q′ .typed) ∙ same ∙ q .typed′))
       ∙ find-at (first .laid .filed) (p .pre) (p .post) (withBytes (q .s) (first .bytes)) (q .nine′) (p .now) (first .name)
 
   slot-again : q′ .s ≡ withBytes (q .s) (first .bytes)
-  slot-again = some-is (sym (q′ .found) ∙ found-again)
+  slot-again = Option·some-injective _ _ (sym (q′ .found) ∙ found-again)
 
   -- so what is left is the one rename
   joined-is : written vs (written ws d) ≡ written (slotWrite d (q .s) namePlace (q′ .nine′) ∷ []) d
@@ -110,7 +111,7 @@ module _ {G : Geometry} {d : Disc} (z : Full G d) {a b b′ c : List ℕ} {ws vs
   writes-nothing e =
       let sec : List ℕ = sector d (q .s .home) in
       let start : ℕ = slotStart (q .s .index) in
-      let name : q′ .nine′ ≡ nameOf (q .s) = some-is (sym (q′ .typed′) ∙ e ∙ q .typed) ∙ sym (there .name) in
+      let name : q′ .nine′ ≡ nameOf (q .s) = Option·some-injective _ _ (sym (q′ .typed′) ∙ e ∙ q .typed) ∙ sym (there .name) in
       let stands : (j : ℕ) → j < length (q′ .nine′) → byte (q′ .nine′) j ≡ byte sec (start + namePlace + j) = λ j h.
       ap (λ (r : List ℕ). byte r j) name ∙ getD-take 9 (q .s .bytes) j 0 (omega (arith, nine-c))
       ∙ ap (λ (r : List ℕ). byte r j) (slot-bytes (l .filed) (q .s) (there .slot-of)) ∙ getD-take 16 (drop start sec) j 0 (omega (arith, nine-c))

@@ -8,14 +8,15 @@ use native.Mathlib.Decide.{ℕ-discrete}
 use mathlib.Core.Bool.{Bool, not}
 use mathlib.Core.List.{List, [], _∷_, map, _++_}
 use lib.ListN.{length, set, take, length-append, length-map, length-drop}
-use Rattle.format.specs.Lists.{elem, filter, sum, times, lastOr, byte, wordAt, Once}
-use Rattle.format.specs.ListLaws.{zero-or, All, all-map, times-join, times-here, times-past, at-all, times-elem, none-elem, once-long, all-mapped}
+use Rattle.lists.specs.Lists.{elem, filter, sum, times, lastOr, byte, wordAt, Once}
+use Rattle.lists.specs.ListLaws.{zero-or, All, all-map, times-join, times-here, times-past, at-all, times-elem, none-elem, once-long, all-mapped}
+use Rattle.lists.specs.Counts.{times-kept, times-lost, OneOf, one-of}
 use Rattle.format.specs.Geometry.{Geometry, sectors, Disc, sector, written}
 use Rattle.format.specs.GeometryLaws.{sector-other, sector-same, Full, sector-full, full-set}
-use Rattle.format.specs.Layout.{freePlace, directoryPlace, freeCountPlace, usedCountPlace, system, Slot, lengthOf, pairAt, pairBytes, directoryPointer, entries, fileSectors}
+use Rattle.format.specs.Layout.{freePlace, directoryPlace, freeCountPlace, usedCountPlace, system, Slot}
+use Rattle.format.specs.Layout.{lengthOf, pairAt, pairBytes, directoryPointer, entries, fileSectors}
 use Rattle.format.specs.ChainLaws.{Chain}
 use Rattle.format.specs.Effects.{body, headOf, chained, systemWrite, passing, unmet, repairWrites}
-use Rattle.soundness.specs.Counts.{times-kept, times-lost, OneOf, one-of}
 use Rattle.soundness.specs.Passing.{passed-once, passed-not}
 use Rattle.soundness.specs.Filed.{entriesOf, chainsOf, Filed, filed-one, directory-is, entries-are}
 use Rattle.soundness.specs.Laid.{Laid, free-is}

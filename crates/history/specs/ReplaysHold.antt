@@ -6,7 +6,7 @@ use native.Mathlib.Omega.{arith}
 use mathlib.Core.List.{List}
 use lib.ListN.{length, drop}
 use lib.Seq.{take-at}
-use Rattle.format.specs.ListLaws.{All}
+use Rattle.lists.specs.ListLaws.{All}
 use Rattle.format.specs.Refusals.{Try, Refusal, SHORT, refused, ok, _>>=_, _orRefuse_, number, valueOr}
 use Rattle.format.specs.RefusalLaws.{refused-ok, ok-is, if-ok, then-ok, refusal-number}
 use Rattle.format.specs.Geometry.{Format, stated, Geometry, geometry, Disc, cut, flat, Write, written}
@@ -14,7 +14,8 @@ use Rattle.format.specs.GeometryLaws.{no-disc, geometry-ok, Full, cut-full}
 use Rattle.format.specs.Formats.{four, stated-cases, stated-arranged}
 use Rattle.format.specs.Writes.{writeList}
 use Rattle.format.specs.WriteLaws.{WholeOn, held-list}
-use Rattle.format.specs.Calls.{saveOn, deleteOn, renameOn, protectOn, replayOn, Change, changed, listed, answered, answerBy, changeAnswerBy, afterSave, afterDelete, afterRename, afterProtect, afterReplay}
+use Rattle.format.specs.Calls.{saveOn, deleteOn, renameOn, protectOn, replayOn, Change, changed, listed, answered}
+use Rattle.format.specs.Calls.{answerBy, changeAnswerBy, afterSave, afterDelete, afterRename, afterProtect, afterReplay}
 use Rattle.soundness.specs.ListedWrites.{save-listed, delete-listed, rename-listed, protect-listed}
 use Rattle.history.specs.Replays.{Replayed, Replays}
 

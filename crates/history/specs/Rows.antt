@@ -6,19 +6,23 @@ use Prim.Native.Nat.{ℕ, _+_}
 use mathlib.Core.List.{List, [], _∷_, _++_, map}
 use lib.ListN.{take, drop, replicate}
 use lib.Seq.{sets}
-use Rattle.format.specs.Lists.{byte, range}
+use Rattle.lists.specs.Lists.{byte, range}
 use Rattle.format.specs.Refusals.{_>>=_, _>>_, refuse_if_, _orRefuse_, number, valueOr}
 use Rattle.format.specs.Geometry.{ten, Geometry, tracked, geometry, pointed, placeOf, sectorAt, chunks, reordered, cut, flat}
 use Rattle.format.specs.Names.{letter, letters, beforeDot, afterDot, withExtension, stored, discName, spaced, legalStored}
-use Rattle.format.specs.Layout.{emptySlot, freeSlot, inUse, slotAt, slotsAt, slotsOf, met, ends, directory, free, slots, entries, openSlot, find, fileChain, fileSectors, nameOf}
+use Rattle.format.specs.Layout.{emptySlot, freeSlot, inUse, slotAt, slotsAt, slotsOf, met, ends, directory}
+use Rattle.format.specs.Layout.{free, slots, entries, openSlot, find, fileChain, fileSectors, nameOf}
 use Rattle.format.specs.Modules.{Module, allowed, sectorsFor, firstBody, laterBody, laterBodies, bodies, guessed, plain}
 use Rattle.format.specs.Check.{goodEntry, differ, rule1, rule2, counted, rule3, rule4, goodChain, rule5, filesHold, rule6, rule7, rule8, broken}
-use Rattle.format.specs.Effects.{withSlot, chained, systemWrite, entryBytes, growth, needed, entryWrites, saveWrites, deleteWrites, reading, passing, version, blankFree, blankSystem, blankDisc, unmet, repairWrites}
+use Rattle.format.specs.Effects.{withSlot, chained, systemWrite, entryBytes, growth, needed, entryWrites, saveWrites}
+use Rattle.format.specs.Effects.{deleteWrites, reading, passing, version, blankFree, blankSystem, blankDisc, unmet, repairWrites}
 use Rattle.format.specs.Writes.{recordOf, writeList, heldAfter}
-use Rattle.format.specs.Calls.{saveBeforeOn, saveOn, deleteOn, renameOn, protectOn, replayOn, repairOn, asked, changed, listed, blank, answerBy, changeAnswerBy, checkAnswerBy, afterCheck, afterSave, afterDelete, afterRename, afterProtect, afterReplay, afterRepair, afterBlank}
+use Rattle.format.specs.Calls.{saveBeforeOn, saveOn, deleteOn, renameOn, protectOn, replayOn, repairOn, asked, changed, listed, blank, answerBy, changeAnswerBy}
+use Rattle.format.specs.Calls.{checkAnswerBy, afterCheck, afterSave, afterDelete, afterRename, afterProtect, afterReplay, afterRepair, afterBlank}
 use Rattle.history.specs.History.{Command, step, accepted, entered, openingBook}
 use Rattle.history.specs.Cuts.{Writing, save, delete, rename, writesOn, afterWriting, cutOn, afterCut, isDone}
-use Rattle.history.specs.Events.{Ledger, speaks, silent, waits, happens, afterCommand, pulledBook, afterPulled, afterRepaired, afterNew, followed, settled, ledgerAfter, Call, command, pulled, repair, replay, blank as blanked, eventOf}
+use Rattle.history.specs.Events.{Ledger, speaks, silent, waits, happens, afterCommand, pulledBook, afterPulled, afterRepaired, afterNew}
+use Rattle.history.specs.Events.{followed, settled, ledgerAfter, Call, command, pulled, repair, replay, blank as blanked, eventOf}
 
 -- the disc `P` of one track, and the names `A` and `B`
 one : Geometry
@@ -99,7 +103,13 @@ record Repairs : Type 0 where
   wrong-size : afterRepair ten (replicate 2559 0) .number ≡ 1
 
 repair-rows : Repairs
-unfolding _>>=_ _>>_ refuse_if_ _orRefuse_ number valueOr ten geometry pointed placeOf sectorAt chunks reordered cut flat letter letters beforeDot afterDot withExtension stored discName spaced legalStored emptySlot freeSlot inUse slotAt slotsAt slotsOf met ends directory free slots entries openSlot find fileChain fileSectors goodEntry differ rule1 rule2 counted rule3 rule4 goodChain rule5 filesHold rule6 rule7 rule8 broken allowed sectorsFor firstBody laterBody laterBodies bodies guessed plain withSlot chained systemWrite entryBytes growth needed entryWrites saveWrites deleteWrites reading passing version blankFree blankSystem blankDisc unmet repairWrites recordOf writeList heldAfter saveBeforeOn saveOn deleteOn renameOn protectOn replayOn repairOn asked changed listed blank answerBy changeAnswerBy checkAnswerBy afterCheck afterSave afterDelete afterRename afterProtect afterReplay afterRepair afterBlank writesOn afterWriting cutOn afterCut isDone one empty nameA nameB moduleOf saveA room withA cuts rethreaded mendedAt
+unfolding _>>=_ _>>_ refuse_if_ _orRefuse_ number valueOr ten geometry pointed placeOf sectorAt chunks reordered cut flat letter letters beforeDot afterDot
+    withExtension stored discName spaced legalStored emptySlot freeSlot inUse slotAt slotsAt slotsOf met ends directory free slots entries openSlot find
+    fileChain fileSectors goodEntry differ rule1 rule2 counted rule3 rule4 goodChain rule5 filesHold rule6 rule7 rule8 broken allowed sectorsFor firstBody
+    laterBody laterBodies bodies guessed plain withSlot chained systemWrite entryBytes growth needed entryWrites saveWrites deleteWrites reading passing version
+    blankFree blankSystem blankDisc unmet repairWrites recordOf writeList heldAfter saveBeforeOn saveOn deleteOn renameOn protectOn replayOn repairOn asked
+    changed listed blank answerBy changeAnswerBy checkAnswerBy afterCheck afterSave afterDelete afterRename afterProtect afterReplay afterRepair afterBlank
+    writesOn afterWriting cutOn afterCut isDone one empty nameA nameB moduleOf saveA room withA cuts rethreaded mendedAt
 repair-rows =
     record {
       cut-save = refl;
@@ -154,7 +164,14 @@ record Speaks : Type 0 where
   waits-for-sound : runOf withA (replay (3 ∷ 0 ∷ 1 ∷ replicate 256 0 ++ 0 ∷ []) ∷ repair ∷ []) ≡ (3 ∷ [])
 
 speaks-rows : Speaks
-unfolding _>>=_ _>>_ refuse_if_ _orRefuse_ number valueOr ten geometry pointed placeOf sectorAt chunks reordered cut flat letter letters beforeDot afterDot withExtension stored discName spaced legalStored emptySlot freeSlot inUse slotAt slotsAt slotsOf met ends directory free slots entries openSlot find fileChain fileSectors goodEntry differ rule1 rule2 counted rule3 rule4 goodChain rule5 filesHold rule6 rule7 rule8 broken allowed sectorsFor firstBody laterBody laterBodies bodies guessed plain withSlot chained systemWrite entryBytes growth needed entryWrites saveWrites deleteWrites reading passing version blankFree blankSystem blankDisc unmet repairWrites recordOf writeList heldAfter saveBeforeOn saveOn deleteOn renameOn protectOn replayOn repairOn asked changed listed blank answerBy changeAnswerBy checkAnswerBy afterCheck afterSave afterDelete afterRename afterProtect afterReplay afterRepair afterBlank writesOn afterWriting cutOn afterCut isDone step accepted entered openingBook happens afterCommand pulledBook afterPulled afterRepaired afterNew followed settled ledgerAfter eventOf one empty nameA nameB moduleOf saveA room withA shown runOf pulledDelete saveB
+unfolding _>>=_ _>>_ refuse_if_ _orRefuse_ number valueOr ten geometry pointed placeOf sectorAt chunks reordered cut flat letter letters beforeDot afterDot
+    withExtension stored discName spaced legalStored emptySlot freeSlot inUse slotAt slotsAt slotsOf met ends directory free slots entries openSlot find
+    fileChain fileSectors goodEntry differ rule1 rule2 counted rule3 rule4 goodChain rule5 filesHold rule6 rule7 rule8 broken allowed sectorsFor firstBody
+    laterBody laterBodies bodies guessed plain withSlot chained systemWrite entryBytes growth needed entryWrites saveWrites deleteWrites reading passing version
+    blankFree blankSystem blankDisc unmet repairWrites recordOf writeList heldAfter saveBeforeOn saveOn deleteOn renameOn protectOn replayOn repairOn asked
+    changed listed blank answerBy changeAnswerBy checkAnswerBy afterCheck afterSave afterDelete afterRename afterProtect afterReplay afterRepair afterBlank
+    writesOn afterWriting cutOn afterCut isDone step accepted entered openingBook happens afterCommand pulledBook afterPulled afterRepaired afterNew followed
+    settled ledgerAfter eventOf one empty nameA nameB moduleOf saveA room withA shown runOf pulledDelete saveB
 speaks-rows =
     record {
       silent-after-a-cut = refl;

@@ -6,28 +6,29 @@ use Prim.Native.Nat.{ℕ, zero, suc, _+_, _*_, _-_, _/_, _%_, _≤_, _<_}
 use native.Mathlib.Omega.{arith}
 use native.Mathlib.Decide.{ℕ-discrete, decLe}
 use mathlib.Core.Bool.{true, false, cond, _&&_, _||_, true≢false}
-use mathlib.Core.Option.{Option, none, some}
+use mathlib.Core.Option.{Option, none, some, Option·some-injective}
 use mathlib.Core.List.{List, [], _∷_, _++_, append-nil}
 use lib.ListN.{length, drop, List·getD-eq-default}
 use lib.Seq.{getD-take, getD-drop}
 use lib.Dec.{eqb, leb}
 use borrow.Author.Tests.{eqb-true, eq-eqb, le-leb}
-use Rattle.format.specs.Lists.{elem, times, lastOr, byte}
-use Rattle.format.specs.ListLaws.{times-none, times-elem, same-true}
+use Rattle.lists.specs.Lists.{isSome, elem, times, lastOr, byte}
+use Rattle.lists.specs.ListLaws.{times-none, times-elem, same-true}
+use Rattle.lists.specs.Stores.{store-twice}
 use Rattle.format.specs.Refusals.{ok}
-use Rattle.format.specs.RefusalLaws.{refused-ok, some-is}
+use Rattle.format.specs.RefusalLaws.{refused-ok}
 use Rattle.format.specs.Geometry.{Format, unknown, stated, Geometry, sectors, sectorAt, startOf, Disc, sector, cut, flat, Write, written}
 use Rattle.format.specs.Formats.{GoodFormat, stated-cases}
 use Rattle.format.specs.GeometryLaws.{no-disc, geometry-ok, pointed-only, pointed-on, Full, sector-full, cut-flat, flat-long, byte-cut, byte-at}
 use Rattle.format.specs.Names.{stored}
 use Rattle.format.specs.NameLaws.{stored-nine, stored-legal}
-use Rattle.format.specs.Layout.{freePlace, freeCountPlace, usedCountPlace, linkPlace, inUsePlace, slotStart, system, Slot, emptySlot, freeSlot, freePointer, directory, free, openSlot, find}
+use Rattle.format.specs.Layout.{freePlace, freeCountPlace, usedCountPlace, linkPlace, inUsePlace, slotStart}
+use Rattle.format.specs.Layout.{system, Slot, emptySlot, freeSlot, freePointer, directory, free, openSlot, find}
 use Rattle.format.specs.ChainLaws.{Chain, end, on, chains-alike}
 use Rattle.format.specs.Modules.{Module, sectorsFor, bodies}
-use Rattle.format.specs.Effects.{isSome, withSlot, entryBytes, growth, needed, deleteWrites}
+use Rattle.format.specs.Effects.{withSlot, entryBytes, growth, needed, deleteWrites}
 use Rattle.format.specs.Calls.{saveOn, deleteOn}
 use Rattle.format.specs.CallLaws.{Saved, save-ok, Deleted, delete-ok}
-use Rattle.soundness.specs.Stores.{store-twice}
 use Rattle.soundness.specs.Slots.{SlotOf, empty-length}
 use Rattle.soundness.specs.SlotWrites.{withSlot-count}
 use Rattle.soundness.specs.Laid.{Laid, sound-laid}
@@ -36,11 +37,11 @@ use Rattle.soundness.specs.Found.{home-high, slot-bytes, Found, found, find-at,
 use Rattle.soundness.specs.Pointers.{Bounded, chain-pointable}
 use Rattle.soundness.specs.SystemWrites.{system-others, system-small}
 use Rattle.history.specs.NewEntry.{entry-length}
-use Rattle.history.specs.Delete.{DeleteLeaves, delete-leaves}
-use Rattle.history.specs.Saving.{Saving, free-times, free-length, file-few}
+use Rattle.history.specs.DeleteLeaves.{DeleteLeaves, delete-leaves}
+use Rattle.history.specs.SaveSectors.{Saving, free-times, free-length, file-few}
 use Rattle.history.specs.SaveFacts.{SaveFacts, newSlot, new-name, new-chain, facts-laid}
 use Rattle.history.specs.SaveOpen.{savedOpen, open-facts, open-home, open-other}
-use Rattle.history.specs.Save.{open-saving, open-is}
+use Rattle.history.specs.SaveLeaves.{open-saving, open-is}
 use Rattle.history.specs.Cuts.{save, delete, writesOn, afterWriting}
 use Rattle.history.specs.Cancels.{fileTook, excepted, SaveDeleteCancel}
 use Rattle.history.specs.Steps.{arranged-here, bounded-here, full-here}
@@ -284,8 +285,8 @@ module _ (G : Geometry) (u : Bounded G) (d : Disc) (z : Full G d) (small : Count
           let t : Slot = newSlot G (q .nine) (fileTook G d m) (s .home) (s .index) in
           let saved : written ws d ≡ d₁ =
           ap (λ (us : List Write). written us d) (sym (q .writes)) ∙ open-is u l z (q .nine) legal nine-long fresh m s o room′ in
-          let name-is : q′ .nine ≡ q .nine = some-is (sym (q′ .typed) ∙ same ∙ q .typed) in
-          let slot-is : q′ .s ≡ t = some-is (sym (q′ .found) ∙ ap₂ (find G) saved name-is ∙ saved-found v s (lies .0) (lies .1)) in
+          let name-is : q′ .nine ≡ q .nine = Option·some-injective _ _ (sym (q′ .typed) ∙ same ∙ q .typed) in
+          let slot-is : q′ .s ≡ t = Option·some-injective _ _ (sym (q′ .found) ∙ ap₂ (find G) saved name-is ∙ saved-found v s (lies .0) (lies .1)) in
           let left : written vs (written ws d) ≡ written (deleteWrites G d₁ t) d₁ =
           ap (λ (us : List Write). written us (written ws d)) (sym (q′ .writes))
           ∙ ap₂ (λ (x : Disc) (r : Slot). written (deleteWrites G x r) x) saved slot-is in

@@ -3,10 +3,11 @@
 use mathlib.Core.Path.{_≡_, sym, ap, _∙_}
 use Prim.Native.Nat.{ℕ, _+_, _≤_, _<_}
 use native.Mathlib.Omega.{arith}
-use mathlib.Core.List.{List, [], _∷_, map, _++_}
+use mathlib.Core.List.{List, [], _∷_, map, _++_, map-append}
 use lib.ListN.{length}
-use Rattle.format.specs.Lists.{sum, times, lastOr, Once}
-use Rattle.format.specs.ListLaws.{All, _also_, all-join, all-left, all-right, map-same, map-join, all-at, at-all}
+use Rattle.lists.specs.Lists.{sum, times, lastOr, Once}
+use Rattle.lists.specs.ListLaws.{All, _also_, all-join, all-left, all-right, map-same, all-at, at-all, equal, unequal, same-or-not}
+use Rattle.lists.specs.Counts.{last-of, once-parts, once-apart}
 use Rattle.format.specs.Geometry.{Geometry, sectors, go, Disc, sector}
 use Rattle.format.specs.GeometryLaws.{Full}
 use Rattle.format.specs.Layout.{Slot, nameOf, lengthOf, linkOf, directoryPointer, firstOf, fileChain}
@@ -14,15 +15,17 @@ use Rattle.format.specs.ChainLaws.{Chain, chain-met, SameLink, chain-frame}
 use Rattle.format.specs.Modules.{plain}
 use Rattle.format.specs.Effects.{body, entryBytes, reading}
 use Rattle.history.specs.History.{File}
-use Rattle.soundness.specs.Counts.{last-of, once-parts}
-use Rattle.soundness.specs.NameCounts.{equal, unequal, same-or-not, called, called-none, called-join, called-at, called-here, called-past}
-use Rattle.soundness.specs.Filed.{GoodEntry, GoodChain, entriesOf, chainsOf, Counted}
-use Rattle.soundness.specs.Laid.{Laid, once-apart}
+use Rattle.lists.specs.Counts.{last-of, once-parts, once-apart}
+use Rattle.format.specs.NameCounts.{called, called-none, called-join, called-at, called-here, called-past}
+use Rattle.format.specs.RuleLaws.{GoodEntry, GoodChain, Counted}
+use Rattle.soundness.specs.Filed.{entriesOf, chainsOf}
+use Rattle.soundness.specs.Laid.{Laid}
 use Rattle.soundness.specs.Frames.{files-frame, chains-join, chains-at, lengths-join, lengths-at, laid-sum}
 use Rattle.soundness.specs.Pointers.{head-pointable}
 use Rattle.history.specs.BookFiles.{fileOf, filesOf, fileOf-frame}
 use Rattle.history.specs.NewEntry.{entry-name, entry-count, entry-first, entry-last, new-entry-good}
-use Rattle.history.specs.Saving.{Saving, savedSystem, withFile, free-length, file-below, rest-chain, file-few, withFile-chain, saved-free, saved-directory, saved-freed, saved-used}
+use Rattle.history.specs.SaveSectors.{Saving, savedSystem, withFile, free-length, file-below, rest-chain, file-few}
+use Rattle.history.specs.SaveSectors.{withFile-chain, saved-free, saved-directory, saved-freed, saved-used}
 
 -- the new entry
 abbrev pub newSlot : Geometry → (nine file : List ℕ) (home index : ℕ) → Slot
@@ -79,7 +82,8 @@ module _ {G : Geometry} {d d′ : Disc} {dir frees dir′ nine file extra rest :
       record {
         chained = rw new-chain new-walk;
         as-long = ap length new-chain ∙ sym new-length;
-        ends-at = entry-last G (v .bounded) nine file (v .nine-long) (file-few v) (all-at (λ n. n < sectors G) (lastOr 0 file) (file-below v) (last-of file (v .some-file)))
+        ends-at = entry-last G (v .bounded) nine file (v .nine-long) (file-few v)
+            (all-at (λ n. n < sectors G) (lastOr 0 file) (file-below v) (last-of file (v .some-file)))
             ∙ ap (λ (ns : List ℕ). go (lastOr 0 ns)) (sym new-chain);
       }
 
@@ -96,20 +100,25 @@ module _ {G : Geometry} {d d′ : Disc} {dir frees dir′ nine file extra rest :
   met-now : (n : ℕ) → times n (chainsOf G d′ (entriesOf d′ dir′)) ≡ times n (chainsOf G d (entriesOf d dir)) + times n file
   unfolding s′
   met-now n =
+      let was = ap (λ (ss : List Slot). times n (chainsOf G d ss)) (c .before) in
       ap (λ (ss : List Slot). times n (chainsOf G d′ ss)) (c .after) ∙ chains-at G d′ (c .pre) (c .post) s′ n
-      ∙ omega (arith, ap (times n) new-chain, chains-join G d′ (c .pre) (c .post) n, ap (times n) (old-files .0), ap (λ (ss : List Slot). times n (chainsOf G d ss)) (c .before))
+      ∙ omega (arith, ap (times n) new-chain, chains-join G d′ (c .pre) (c .post) n, ap (times n) (old-files .0), was)
 
   met-once : Once (sectors G) (dir′ ++ chainsOf G d′ (entriesOf d′ dir′) ++ rest)
   met-once =
-      once-parts dir (chainsOf G d (entriesOf d dir)) frees dir′ (chainsOf G d′ (entriesOf d′ dir′)) rest (λ n. omega (arith, met-now n, c .moved n)) (v .laid .once)
+      once-parts dir (chainsOf G d (entriesOf d dir)) frees dir′ (chainsOf G d′ (entriesOf d′ dir′)) rest
+      (λ n. omega (arith, met-now n, c .moved n)) (v .laid .once)
 
   new-names : (x : List ℕ) → called x (entriesOf d′ dir′) ≤ 1
   unfolding s′
   new-names x =
-      let now : called x (entriesOf d′ dir′) ≡ called x (c .pre) + called x (s′ ∷ []) + called x (c .post) = ap (called x) (c .after) ∙ called-at x (c .pre) (c .post) s′ in
+      let now : called x (entriesOf d′ dir′) ≡ called x (c .pre) + called x (s′ ∷ []) + called x (c .post) =
+      ap (called x) (c .after) ∙ called-at x (c .pre) (c .post) s′ in
       let was : called x (entriesOf d dir) ≡ called x (c .pre) + called x (c .post) = ap (called x) (c .before) ∙ called-join x (c .pre) (c .post) in
       elim (same-or-not (nameOf s′) x) [
-        | equal q r ↦ omega (arith, now, was, called-here x s′ [] q, called-none x, ap (λ (y : List ℕ). called y (entriesOf d dir)) (sym new-name ∙ q), v .fresh)
+        | equal q r ↦
+            let none = ap (λ (y : List ℕ). called y (entriesOf d dir)) (sym new-name ∙ q) in
+            omega (arith, now, was, called-here x s′ [] q, called-none x, none, v .fresh)
         | unequal q r ↦ omega (arith, now, was, called-past x s′ [] q, called-none x, v .laid .filed .names-differ x)
       ]
 
@@ -143,7 +152,8 @@ module _ {G : Geometry} {d d′ : Disc} {dir frees dir′ nine file extra rest :
       }
 
   -- the files as the book has them: one more
-  pub facts-files : (a : List File) × (b : List File) × (filesOf G d dir ≡ a ++ b) × (filesOf G d′ dir′ ≡ a ++ record { name = nine; count = length file; reading = plain bs } ∷ b)
+  pub facts-files : (a : List File) × (b : List File) × (filesOf G d dir ≡ a ++ b)
+      × (filesOf G d′ dir′ ≡ a ++ record { name = nine; count = length file; reading = plain bs } ∷ b)
   unfolding reading s′
   facts-files =
       let pre = c .pre in
@@ -153,7 +163,7 @@ module _ {G : Geometry} {d d′ : Disc} {dir frees dir′ nine file extra rest :
       let new : reading G d′ s′ ≡ plain bs = ap plain (ap (map (λ n. body (sector d′ n))) new-chain ∙ new-bodies) in (
         map (fileOf G d′) pre,
         map (fileOf G d′) post,
-        ap (map (fileOf G d)) (c .before) ∙ sym old ∙ map-join (fileOf G d′) pre post,
-        ap (map (fileOf G d′)) (c .after) ∙ map-join (fileOf G d′) pre (s′ ∷ post)
+        ap (map (fileOf G d)) (c .before) ∙ sym old ∙ map-append (fileOf G d′) pre post,
+        ap (map (fileOf G d′)) (c .after) ∙ map-append (fileOf G d′) pre (s′ ∷ post)
             ∙ (λ i. map (fileOf G d′) pre ++ record { name = new-name i; count = new-length i; reading = new i } ∷ map (fileOf G d′) post),
       )

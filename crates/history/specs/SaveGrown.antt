@@ -8,21 +8,23 @@ use native.Mathlib.Decide.{ℕ-discrete}
 use mathlib.Core.List.{List, [], _∷_, _++_, append-nil}
 use lib.ListN.{length, set, take, length-append}
 use lib.Seq.{length-sets}
-use Rattle.format.specs.Lists.{joined, times, lastOr, byte}
-use Rattle.format.specs.ListLaws.{done, _also_, all-join, map-same, times-none, times-join, times-here, all-at, at-all, joined-join}
+use Rattle.lists.specs.Lists.{joined, times, lastOr, byte}
+use Rattle.lists.specs.ListLaws.{done, _also_, all-join, map-same, times-none, times-join, times-here, all-at, at-all, joined-join}
+use Rattle.lists.specs.Counts.{last-of, OneOf}
+use Rattle.lists.specs.Stores.{getD-sets-off, drop-sets}
 use Rattle.format.specs.Geometry.{Geometry, sectors, go, Disc, sector}
 use Rattle.format.specs.GeometryLaws.{sector-other, sector-same, Full, sector-full, full-set}
 use Rattle.format.specs.Layout.{linkPlace, inUsePlace, slotStart, Slot, inUse, slotsAt, slotsOf, linkBytes, linkOf, directoryPointer}
 use Rattle.format.specs.ChainLaws.{Chain, end, on, chain-join}
 use Rattle.format.specs.Effects.{withLink, entryBytes}
-use Rattle.soundness.specs.Counts.{last-of, OneOf}
-use Rattle.soundness.specs.Stores.{getD-sets-off, drop-sets}
 use Rattle.soundness.specs.Slots.{inUse-join, slotBytes, slots-by}
-use Rattle.soundness.specs.Filed.{GoodEntry, good-used, entriesOf, chainsOf, Counted}
+use Rattle.format.specs.RuleLaws.{GoodEntry, Counted}
+use Rattle.soundness.specs.Filed.{good-used, entriesOf, chainsOf}
 use Rattle.soundness.specs.Laid.{laid-one}
 use Rattle.soundness.specs.Pointers.{to-sector, link-stored}
-use Rattle.history.specs.NewEntry.{entry-length, new-entry-good, newDirectory, new-directory-length, new-directory-link, new-directory-count, new-directory-slots}
-use Rattle.history.specs.Saving.{Saving, savedSystem, withFile, free-times, file-few, withFile-full, withFile-zero, withFile-other}
+use Rattle.history.specs.NewEntry.{entry-length, new-entry-good, newDirectory, new-directory-length}
+use Rattle.history.specs.NewEntry.{new-directory-link, new-directory-count, new-directory-slots}
+use Rattle.history.specs.SaveSectors.{Saving, savedSystem, withFile, free-times, file-few, withFile-full, withFile-zero, withFile-other}
 use Rattle.history.specs.SaveFacts.{SaveFacts}
 
 -- the disc that such a save leaves: the new directory sector is `new`, the old directory's last is `last`
@@ -30,7 +32,8 @@ abbrev pub savedGrown : Geometry → Disc → (nine file taken : List ℕ) (new 
 savedGrown G d nine file taken new last bs =
     set (set (withFile G d taken file bs) new (newDirectory (entryBytes G nine file))) last (withLink (sector d last) (linkBytes G (go new)))
 
-module _ {G : Geometry} {d : Disc} {dir frees nine file rest : List ℕ} {new : ℕ} {bs : List (List ℕ)} (v : Saving G d dir frees nine file (new ∷ []) rest bs) where
+module _ {G : Geometry} {d : Disc} {dir frees nine file rest : List ℕ} {new : ℕ} {bs : List (List ℕ)}
+    (v : Saving G d dir frees nine file (new ∷ []) rest bs) where
   e : List ℕ
   e = entryBytes G nine file
 
@@ -122,10 +125,13 @@ module _ {G : Geometry} {d : Disc} {dir frees nine file rest : List ℕ} {new : 
 
   directory-stays : (n : ℕ) → 0 < times n dir → n ≢ last → sector d₃ n ≡ sector d n
   directory-stays n h ne =
-      at-other n (λ w. omega (arith, new-out .1, ap (λ (k : ℕ). times k dir) w)) ne (λ w. omega (arith, one n .low (omega arith))) (omega (arith, one n .one, taken-times n))
+      at-other n (λ w. omega (arith, new-out .1, ap (λ (k : ℕ). times k dir) w)) ne (λ w. omega (arith, one n .low (omega arith)))
+      (omega (arith, one n .one, taken-times n))
 
   in-file : (n : ℕ) → 0 < times n file → sector d₃ n ≡ sector d₂ n
-  in-file n h = at-file n (λ w. omega (arith, new-out .0, ap (λ (k : ℕ). times k file) w)) (λ w. omega (arith, one n .one, taken-times n, last-in-dir, ap (λ (k : ℕ). times k dir) w))
+  in-file n h =
+      at-file n (λ w. omega (arith, new-out .0, ap (λ (k : ℕ). times k file) w))
+      (λ w. omega (arith, one n .one, taken-times n, last-in-dir, ap (λ (k : ℕ). times k dir) w))
 
   -- ---- the directory
 
@@ -135,7 +141,8 @@ module _ {G : Geometry} {d : Disc} {dir frees nine file rest : List ℕ} {new : 
       slots-by d d₃ n (λ j.
       elim (ℕ-discrete n last) [
         | yes w ↦ ap (λ (k : ℕ). slotBytes (sector d₃ k) j) w ∙ ap (λ (r : List ℕ). slotBytes r j) at-last
-            ∙ ap (take 16) (drop-sets (linkBytes G (go new)) (sector d last) linkPlace (slotStart j) (omega arith)) ∙ ap (λ (k : ℕ). slotBytes (sector d k) j) (sym w)
+            ∙ ap (take 16) (drop-sets (linkBytes G (go new)) (sector d last) linkPlace (slotStart j) (omega arith))
+            ∙ ap (λ (k : ℕ). slotBytes (sector d k) j) (sym w)
         | no w ↦ ap (λ (r : List ℕ). slotBytes r j) (directory-stays n h w)
       ])
 
@@ -159,7 +166,8 @@ module _ {G : Geometry} {d : Disc} {dir frees nine file rest : List ℕ} {new : 
   unfolding sec2
   counts′ n h c =
       elim (ℕ-discrete n last) [
-        | yes w ↦ ap (λ (k : ℕ). byte (sector d₃ k) inUsePlace) w ∙ ap (λ (r : List ℕ). byte r inUsePlace) at-last ∙ getD-sets-off (linkBytes G (go new)) (sector d last) linkPlace inUsePlace 0 (λ a. omega arith)
+        | yes w ↦ ap (λ (k : ℕ). byte (sector d₃ k) inUsePlace) w ∙ ap (λ (r : List ℕ). byte r inUsePlace) at-last
+            ∙ getD-sets-off (linkBytes G (go new)) (sector d last) linkPlace inUsePlace 0 (λ a. omega arith)
             ∙ ap (λ (k : ℕ). byte (sector d k) inUsePlace) (sym w) ∙ c
         | no w ↦ ap (λ (r : List ℕ). byte r inUsePlace) (directory-stays n h w) ∙ c
       ]
@@ -176,7 +184,8 @@ module _ {G : Geometry} {d : Disc} {dir frees nine file rest : List ℕ} {new : 
       (ap (linkOf G) at-last ∙ link-stored G (v .bounded) (sector d last) (to-sector new new-high) (omega (arith, full-last)))
       (on refl (end (ap (linkOf G) at-new ∙ new-directory-link e sixteen G)))
 
-  pub grown-facts : SaveFacts G d (savedGrown G d nine file (file ++ new ∷ []) new (lastOr 0 dir) bs) dir frees (dir ++ new ∷ []) nine file (new ∷ []) rest bs new 0
+  pub grown-facts : SaveFacts G d (savedGrown G d nine file (file ++ new ∷ []) new (lastOr 0 dir) bs)
+      dir frees (dir ++ new ∷ []) nine file (new ∷ []) rest bs new 0
   unfolding d₃ d₂ sec2 e s′ last
   grown-facts =
       record {
@@ -190,7 +199,10 @@ module _ {G : Geometry} {d : Disc} {dir frees nine file rest : List ℕ} {new : 
         in-use-counted = all-join (at-all dir (λ n k. counts′ n k (all-at (Counted d) n (v .laid .filed .in-use-counted) k))) (count-new also done);
         at-system = at-zero;
         at-file = in-file;
-        stays = λ n k. at-other n (λ w. omega (arith, new-out .2, new-out .3, ap (λ (j : ℕ). times j (chainsOf G d (entriesOf d dir))) w, ap (λ (j : ℕ). times j rest) w))
-            (λ w. omega (arith, one n .one, taken-times n, last-in-dir, ap (λ (j : ℕ). times j dir) w)) (λ w. omega (arith, one n .low (omega (arith, taken-times n)))) (omega (arith, one n .one, taken-times n));
+        stays = λ n k.
+            at-other n
+            (λ w. omega (arith, new-out .2, new-out .3, ap (λ (j : ℕ). times j (chainsOf G d (entriesOf d dir))) w, ap (λ (j : ℕ). times j rest) w))
+            (λ w. omega (arith, one n .one, taken-times n, last-in-dir, ap (λ (j : ℕ). times j dir) w))
+            (λ w. omega (arith, one n .low (omega (arith, taken-times n)))) (omega (arith, one n .one, taken-times n));
         moved = λ n. omega (arith, taken-times n, times-join n dir (new ∷ []));
       }

@@ -8,28 +8,30 @@ use native.Mathlib.Decide.{ℕ-discrete}
 use mathlib.Core.Bool.{true}
 use mathlib.Core.List.{List, [], _∷_, _++_}
 use lib.ListN.{length, set, length-append}
-use Rattle.format.specs.Lists.{times, byte}
-use Rattle.format.specs.ListLaws.{times-none, all-at, at-all}
+use Rattle.lists.specs.Lists.{times, byte}
+use Rattle.lists.specs.ListLaws.{times-none, all-at, at-all}
+use Rattle.lists.specs.Counts.{OneOf}
+use Rattle.lists.specs.Places.{Place}
 use Rattle.format.specs.Geometry.{Geometry, sectors, Disc, sector}
 use Rattle.format.specs.GeometryLaws.{sector-other, sector-same, Full, sector-full, full-set}
 use Rattle.format.specs.Layout.{inUsePlace, Slot, freeSlot, inUse, slotsOf, linkOf}
 use Rattle.format.specs.ChainLaws.{SameLink, chain-frame}
 use Rattle.format.specs.Effects.{withSlot, entryBytes}
-use Rattle.soundness.specs.Counts.{OneOf}
-use Rattle.soundness.specs.Places.{Place}
 use Rattle.soundness.specs.Slots.{place-filled, SlotOf, slots-same}
 use Rattle.soundness.specs.SlotWrites.{withSlot-length, withSlot-count, withBytes, SlotChange, withSlot-change, change-link, change-sector, change-slots}
-use Rattle.soundness.specs.Filed.{GoodEntry, good-used, entriesOf, chainsOf, Counted}
+use Rattle.format.specs.RuleLaws.{GoodEntry, Counted}
+use Rattle.soundness.specs.Filed.{good-used, entriesOf, chainsOf}
 use Rattle.soundness.specs.Laid.{laid-one}
 use Rattle.soundness.specs.Found.{home-once, home-low, home-high}
 use Rattle.history.specs.NewEntry.{entry-length, new-entry-good}
-use Rattle.history.specs.Saving.{Saving, savedSystem, withFile, free-times, file-few, withFile-full, withFile-zero, withFile-other}
+use Rattle.history.specs.SaveSectors.{Saving, savedSystem, withFile, free-times, file-few, withFile-full, withFile-zero, withFile-other}
 use Rattle.history.specs.SaveFacts.{SaveFacts}
 
 -- the disc that such a save leaves
 abbrev pub savedOpen : Geometry → Disc → (nine file : List ℕ) → List (List ℕ) → Slot → Disc
 savedOpen G d nine file bs s =
-    set (withFile G d (file ++ []) file bs) (s .home) (withSlot (sector d (s .home)) (s .index) (byte (sector d (s .home)) inUsePlace + 1) (entryBytes G nine file))
+    set (withFile G d (file ++ []) file bs) (s .home)
+    (withSlot (sector d (s .home)) (s .index) (byte (sector d (s .home)) inUsePlace + 1) (entryBytes G nine file))
 
 module _ {G : Geometry} {d : Disc} {dir frees nine file rest : List ℕ} {bs : List (List ℕ)} (v : Saving G d dir frees nine file [] rest bs)
     (s : Slot) (o : SlotOf d dir s) (unused : freeSlot s ≡ true) where
@@ -121,9 +123,11 @@ module _ {G : Geometry} {d : Disc} {dir frees nine file rest : List ℕ} {bs : L
             let p = change-sector s o change in
             let q = place-filled p unused (good-used s′ good′) in
             let c′ : Counted d (s .home) = subst (Counted d) w c in
+            let was = ap length (q .0) ∙ length-append (inUse (p .pre)) (inUse (p .post)) in
+            let now = ap length (q .1) ∙ length-append (inUse (p .pre)) (s′ ∷ inUse (p .post)) in
             subst (Counted d₃) (sym w)
             (ap (λ (r : List ℕ). byte r inUsePlace) at-home ∙ withSlot-count (sector d (s .home)) (s .index) _ e sixteen (omega (arith, full-home))
-            ∙ omega (arith, c′, ap length (q .0), ap length (q .1), length-append (inUse (p .pre)) (s′ ∷ inUse (p .post)), length-append (inUse (p .pre)) (inUse (p .post))))
+            ∙ omega (arith, c′, was, now))
         | no w ↦ rw (directory-stays n h w, slots-same d d₃ n (directory-stays n h w)) c
       ]
 
@@ -141,7 +145,9 @@ module _ {G : Geometry} {d : Disc} {dir frees nine file rest : List ℕ} {bs : L
         in-use-counted = at-all dir (λ n k. counts′ n k (all-at (Counted d) n (v .laid .filed .in-use-counted) k));
         at-system = at-zero;
         at-file = λ n k. at-file n (λ w. omega (arith, one n .one, o .in-directory, taken-times n, ap (λ (j : ℕ). times j dir) w));
-        stays = λ n k. at-other n (λ w. omega (arith, one n .one, taken-times n, o .in-directory, ap (λ (j : ℕ). times j dir) w)) (λ w. omega (arith, one n .low (omega (arith, taken-times n)))) (omega (arith, one n .one, taken-times n));
+        stays = λ n k.
+            at-other n (λ w. omega (arith, one n .one, taken-times n, o .in-directory, ap (λ (j : ℕ). times j dir) w))
+            (λ w. omega (arith, one n .low (omega (arith, taken-times n)))) (omega (arith, one n .one, taken-times n));
         moved = λ n. omega (arith, taken-times n);
       }
 

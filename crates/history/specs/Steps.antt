@@ -7,6 +7,7 @@ use native.Mathlib.Omega.{arith}
 use native.Mathlib.Nat.{mul-le-mul-left}
 use mathlib.Core.List.{List}
 use lib.ListN.{length, length-map}
+use Rattle.lists.specs.Permutations.{as-is}
 use Rattle.format.specs.Refusals.{ok, _>>=_, number, valueOr}
 use Rattle.format.specs.Geometry.{Format, Geometry, geometry, Disc, cut, flat, Write, written}
 use Rattle.format.specs.Arrangements.{Arranged}
@@ -15,7 +16,6 @@ use Rattle.format.specs.GeometryLaws.{ImageOf, geometry-ok, Full, cut-full, cut
 use Rattle.format.specs.Layout.{slotsEach, slotsOf, directory, free, slots, entries}
 use Rattle.format.specs.Check.{broken}
 use Rattle.format.specs.Calls.{asked, CheckAnswer, checkAnswerBy, afterCheck}
-use Rattle.format.specs.Permutations.{as-is}
 use Rattle.soundness.specs.Slots.{inUse-many, slots-many}
 use Rattle.soundness.specs.Filed.{entriesOf}
 use Rattle.soundness.specs.Laid.{sound-laid}

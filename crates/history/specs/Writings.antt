@@ -7,13 +7,14 @@ use native.Mathlib.Omega.{arith}
 use mathlib.Core.List.{List}
 use lib.ListN.{length, take}
 use borrow.Author.Tests.{le-ltb}
-use Rattle.format.specs.ListLaws.{All}
+use Rattle.lists.specs.ListLaws.{All}
 use Rattle.format.specs.Refusals.{Try, Refusal, refused, ok, _>>=_, _>>_, refuse_if_, number, valueOr}
 use Rattle.format.specs.RefusalLaws.{refusal-number}
 use Rattle.format.specs.Geometry.{Format, Geometry, geometry, Disc, cut, flat, Write, written}
 use Rattle.format.specs.Writes.{writeList, writesIn}
 use Rattle.format.specs.WriteLaws.{WholeOn, list-long}
-use Rattle.format.specs.Calls.{changed, listed, Change, Answer, answered, answerBy, ChangeAnswer, changeAnswerBy, afterSave, afterDelete, afterRename, afterProtect}
+use Rattle.format.specs.Calls.{changed, listed, Change, Answer, answered, answerBy, ChangeAnswer}
+use Rattle.format.specs.Calls.{changeAnswerBy, afterSave, afterDelete, afterRename, afterProtect}
 use Rattle.format.specs.ListedLaws.{changeBy, Outcome, stays, writes, outcome}
 use Rattle.history.specs.History.{leaving, step}
 use Rattle.history.specs.Cuts.{Writing, save, delete, rename, protect, asCommand, writesOn, afterWriting, cutOn, afterCut}

@@ -6,10 +6,10 @@ use mathlib.Core.Bool.{true, false}
 use mathlib.Core.List.{List}
 use lib.ListN.{length}
 use borrow.Author.Tests.{lt-ltb, le-ltb}
-use Rattle.disc.specs.Meaning.{geo, sectorsOf}
-use Rattle.disc.specs.declared.Geometry as code
-use Rattle.disc.specs.Laws.{Opened}
-use Rattle.format.specs.Lists.{front}
+use Rattle.geometry.specs.Meaning.{geo, sectorsOf}
+use Rattle.geometry.specs.declared.Geometry as code
+use Rattle.geometry.specs.Laws.{Opened}
+use Rattle.lists.specs.Lists.{front}
 use Rattle.format.specs.Refusals.{SIZE, refused, _>>_, refuse_if_}
 use Rattle.format.specs.Geometry.{Format, Geometry, Disc, geometry}
 use Rattle.format.specs.Check.{sound}

@@ -7,16 +7,17 @@ use mathlib.Core.Bool.{Bool, true, false, not}
 use mathlib.Core.List.{List, [], _∷_, _++_, map, append-assoc, append-nil}
 use lib.ListN.{length, take, drop, length-append, length-drop}
 use lib.Seq.{length-take-le}
-use Rattle.disc.specs.Laws.{image-full}
-use Rattle.format.specs.Lists.{word, consIf, filter, joined}
-use Rattle.format.specs.ListLaws.{All, done, _also_, all-map, all-filter, all-joined, all-mapped, range-all, joined-join}
+use Rattle.geometry.specs.Laws.{image-full}
+use Rattle.lists.specs.Lists.{word, consIf, filter, joined}
+use Rattle.lists.specs.ListLaws.{All, done, _also_, all-map, all-filter, all-joined, all-mapped, range-all, joined-join}
 use Rattle.format.specs.Geometry.{Geometry, sectors, startOf, Disc, sector}
 use Rattle.format.specs.GeometryLaws.{pointed-on, sector-full}
 use Rattle.format.specs.ChainLaws.{met-few, met-below}
-use Rattle.format.specs.Layout.{discNamePlace, slotsEach, slotStart, freeCount, usedCount, discNameOf, Slot, freeSlot, inUse, nameOf, lengthOf, attributeOf, slotAt, slotsAt, slotsOf, directoryPointer, directory, slots, entries}
+use Rattle.format.specs.Layout.{discNamePlace, freeCount, usedCount, discNameOf, directoryPointer, directory, slots, entries}
+use Rattle.format.specs.Layout.{slotsEach, slotStart, Slot, freeSlot, inUse, nameOf, lengthOf, attributeOf, slotAt, slotsAt, slotsOf}
 use Rattle.format.specs.Effects.{listing}
-use Rattle.disc.specs.Meaning.{geo, sectorsOf, Image, form}
-use Rattle.disc.specs.declared.Geometry as code
+use Rattle.geometry.specs.Meaning.{geo, sectorsOf, Image, form}
+use Rattle.geometry.specs.declared.Geometry as code
 use Rattle.slots.specs.Laws.{name-front, name-nine, part-cut}
 use Rattle.slots.specs.InOrder.{slotsFrom, slots-next, slots-end, use-join, use-free, use-used}
 use Rattle.directory.specs.Laws.{slots-none, slots-cons}
@@ -98,7 +99,8 @@ pub entries-few : {g : code.Geometry} {image : List ℕ} → Image g image → l
 unfolding directory
 entries-few {g} {image} im =
     let d : Disc = sectorsOf g image in
-    omega (arith, im .valid .total, ap length (entries-are (geo g) d), used-all d (directory (geo g) d), met-few (geo g) d (sectors (geo g)) (directoryPointer (geo g) d))
+    let few = met-few (geo g) d (sectors (geo g)) (directoryPointer (geo g) d) in
+    omega (arith, im .valid .total, ap length (entries-are (geo g) d), used-all d (directory (geo g) d), few)
 
 -- ---- how many bytes
 
@@ -150,7 +152,7 @@ module _ {g : code.Geometry} {image : List ℕ} (im : Image g image) where
 
   -- ---- where the bytes of a record come from
 
-  -- nine bytes of sector n from place k on, where they lie in the image
+  -- nine bytes of sector n from offset k on, where they lie in the image
   pub nine-at : (n k start : ℕ) → n < g .sectors → k + 9 ≤ 256 → start ≡ startOf (form g) (geo g) n + k
       → take (start + 9 - start) (drop start image) ≡ take 9 (drop k (sector (sectorsOf g image) n))
   nine-at n k start on fits e =

@@ -2,7 +2,7 @@
 -- Assumes nothing.
 use Prim.Native.Nat.{ℕ}
 use mathlib.Core.List.{List, [], _∷_, _++_, map}
-use Rattle.format.specs.Lists.{word, joined}
+use Rattle.lists.specs.Lists.{word, joined}
 use Rattle.format.specs.Geometry.{Disc}
 use Rattle.format.specs.Layout.{freeCount, usedCount, discNameOf, Slot, inUse, nameOf, lengthOf, attributeOf}
 use Rattle.format.specs.Calls.{ListAnswer}

@@ -5,13 +5,14 @@ use Prim.Native.Nat.{ℕ, _+_, _≤_, _<_}
 use native.Mathlib.Omega.{arith}
 use mathlib.Core.List.{List, [], _∷_, _++_}
 use lib.ListN.{length, set}
-use Rattle.format.specs.Lists.{front}
+use Rattle.lists.specs.Lists.{front}
 use Rattle.format.specs.Geometry.{Geometry, Disc}
 use Rattle.format.specs.Layout.{slots}
 use Rattle.format.specs.Effects.{listing}
 use Rattle.listing.specs.Meaning.{discRecord, recordsOf}
 use Rattle.listing.specs.Laws.{listing-parts}
-use Rattle.records.specs.Storing.{Stored, Storing, storing-all, storing-step, storing-room, sets-front}
+use Rattle.records.specs.Storing.{Stored, Storing, storing-all, storing-step, storing-room}
+use Rattle.lists.specs.Stores.{sets-front}
 
 module _ (G : Geometry) (d : Disc) (b : List ℕ) (room : length (listing G d) ≤ length b) where
   at-start : Storing b 0 (listing G d) b 0 (discRecord d ++ (recordsOf (slots G d) ++ 0 ∷ []))

@@ -2,19 +2,19 @@
 // The length of the records and their bytes are what stands on the disc, sound or not.
 use answers::Filled;
 use directory::Step;
-use disc::Geometry;
-use disc::SectorNo;
-use disc::Sized;
-use disc::Stated;
+use geometry::Geometry;
+use geometry::SectorNo;
+use geometry::Sized;
+use geometry::Stated;
 ghost use mathlib.Core.Path.{_≡_};
 ghost use mathlib.Core.List.{[], _∷_};
-ghost use Prim.Native.Nat.{_+_, _*_, _/_, _%_, _≤_, _<_};
+ghost use Prim.Native.Nat.{_+_, _*_, _≤_, _<_};
 ghost use lib.ListN.{length};
-ghost use Rattle.format.specs.Lists.{front};
+ghost use Rattle.lists.specs.Lists.{front};
 ghost use Rattle.format.specs.Layout.{slotsEach, inUse, slotAt, slotsAt, slots, entries};
 ghost use Rattle.format.specs.Effects.{listing};
 ghost use Rattle.format.specs.Calls.{listOn, listAnswerBy, afterList};
-ghost use Rattle.disc.specs.Meaning.{kindOf, geo, sectorsOf, Image};
+ghost use Rattle.geometry.specs.Meaning.{kindOf, geo, sectorsOf, Image};
 ghost use Rattle.records.specs.Storing.{Stored};
 ghost use Rattle.listing.specs.Meaning.{entryRecord, recordsOf, discRecord, listAnswer};
 
@@ -36,7 +36,7 @@ fn count_sector(image: &[u8], g: Geometry, n: SectorNo) -> usize
 {
     let mut count: usize = 0;
     let mut i: usize = 0;
-    while i < 15 {
+    while i < slots::SLOTS {
         count += count_slot(image, g, n, i);
         i += 1;
     }
@@ -68,28 +68,21 @@ fn listing_length(image: &[u8], g: Geometry) -> usize
     14 + 13 * count_entries(image, g) + 1
 }
 
-fn low(n: u16) -> u8
-    ensures { λ r. ⌜ r ≡ n % 256 ⌝ }
-{
-    (n % 256) as u8
-}
-
-fn high(n: u16) -> u8
-    ensures { λ r. ⌜ r ≡ n / 256 % 256 ⌝ }
-{
-    (n / 256) as u8
-}
-
 // Stores the record of the disc.
 fn put_disc(image: &[u8], g: Geometry, buffer: &mut [u8]) -> usize
     requires { ⌜ Image g (now image) × (14 ≤ length (now buffer)) ⌝ }
     ensures { λ r. ⌜ Stored (now (buffer .entry)) 0 (discRecord (sectorsOf g (now (image .entry)))) (now (buffer .exit)) r ⌝ }
 {
-    let start = disc::start_of(g, SectorNo(0)) + 0x18;
+    let start = geometry::start_of(g, system::SYSTEM) + system::DISC_NAME;
     let end = start + 9;
-    let free = disc::word_of(image, g, SectorNo(0), 0x14);
-    let used = disc::word_of(image, g, SectorNo(0), 0x16);
-    let counts = [low(free), high(free), low(used), high(used)];
+    let free = system::free_count(image, g);
+    let used = system::used_count(image, g);
+    let counts = [
+        bytes::low(free),
+        bytes::high(free),
+        bytes::low(used),
+        bytes::high(used),
+    ];
     records::put_record(buffer, 0, 1, &image[start..end], &counts)
 }
 
@@ -105,16 +98,28 @@ fn put_entry(
     requires { ⌜ Image g (now image) × (n .0 < g .sectors) × (i < slotsEach) × (at + 13 ≤ length (now buffer)) ⌝ }
     ensures { λ r. ⌜ Stored (now (buffer .entry)) at (entryRecord (slotAt (sectorsOf g (now (image .entry))) (n .0) i)) (now (buffer .exit)) r ⌝ }
 {
-    let start = disc::start_of(g, n) + slots::slot_start(i);
+    let start = geometry::start_of(g, n) + slots::slot_start(i);
     let end = start + 9;
-    let entry = directory::entry_of(image, g, n, i);
-    let numbers = [low(entry.length), high(entry.length), entry.attribute];
+    let entry = slots::entry_of(image, g, n, i);
+    let numbers = [
+        bytes::low(entry.length),
+        bytes::high(entry.length),
+        entry.attribute,
+    ];
     records::put_record(buffer, at, 2, &image[start..end], &numbers)
 }
 
 // Stores what slot i of sector n adds to the records: nothing where it is free.
-fn put_slot(image: &[u8], g: Geometry, n: SectorNo, i: usize, buffer: &mut [u8], at: usize) -> usize
-    requires { ⌜ Image g (now image) × (n .0 < g .sectors) × (i < slotsEach) × (at + length (recordsOf (slotAt (sectorsOf g (now image)) (n .0) i ∷ [])) ≤ length (now buffer)) ⌝ }
+fn put_slot_record(
+    image: &[u8],
+    g: Geometry,
+    n: SectorNo,
+    i: usize,
+    buffer: &mut [u8],
+    at: usize,
+) -> usize
+    requires { ⌜ Image g (now image) × (n .0 < g .sectors) × (i < slotsEach)
+        × (at + length (recordsOf (slotAt (sectorsOf g (now image)) (n .0) i ∷ [])) ≤ length (now buffer)) ⌝ }
     ensures { λ r. ⌜ Stored (now (buffer .entry)) at (recordsOf (slotAt (sectorsOf g (now (image .entry))) (n .0) i ∷ [])) (now (buffer .exit)) r ⌝ }
 {
     if slots::slot_free(image, g, n, i) {
@@ -124,14 +129,14 @@ fn put_slot(image: &[u8], g: Geometry, n: SectorNo, i: usize, buffer: &mut [u8],
 }
 
 // Stores the records of directory sector n.
-fn put_sector(image: &[u8], g: Geometry, n: SectorNo, buffer: &mut [u8], at: usize) -> usize
+fn put_sector_records(image: &[u8], g: Geometry, n: SectorNo, buffer: &mut [u8], at: usize) -> usize
     requires { ⌜ Image g (now image) × (n .0 < g .sectors) × (at + length (recordsOf (slotsAt (sectorsOf g (now image)) (n .0))) ≤ length (now buffer)) ⌝ }
     ensures { λ r. ⌜ Stored (now (buffer .entry)) at (recordsOf (slotsAt (sectorsOf g (now (image .entry))) (n .0))) (now (buffer .exit)) r ⌝ }
 {
     let mut next = at;
     let mut i: usize = 0;
-    while i < 15 {
-        next = put_slot(image, g, n, i, buffer, next);
+    while i < slots::SLOTS {
+        next = put_slot_record(image, g, n, i, buffer, next);
         i += 1;
     }
     next
@@ -142,14 +147,14 @@ fn put_entries(image: &[u8], g: Geometry, buffer: &mut [u8], at: usize) -> usize
     requires { ⌜ Image g (now image) × (at + length (recordsOf (slots (geo g) (sectorsOf g (now image)))) ≤ length (now buffer)) ⌝ }
     ensures { λ r. ⌜ Stored (now (buffer .entry)) at (recordsOf (slots (geo g) (sectorsOf g (now (image .entry))))) (now (buffer .exit)) r ⌝ }
 {
-    let mut place = at;
+    let mut position = at;
     let mut rest = directory::start(image, g);
     loop {
         let next = directory::advance(image, g, rest);
         let Step::Sector(n, after) = next else {
-            return place;
+            return position;
         };
-        place = put_sector(image, g, n, buffer, place);
+        position = put_sector_records(image, g, n, buffer, position);
         rest = after;
     }
 }
@@ -167,7 +172,9 @@ fn put_listing(image: &[u8], g: Geometry, buffer: &mut [u8])
 // The refusals 3 and 10, then the records.
 fn list_on(image: &[u8], g: Geometry, buffer: &mut [u8]) -> Filled
     requires { ⌜ Image g (now image) ⌝ }
-    ensures { λ r. ⌜ listAnswer r (now (buffer .exit)) ≡ listAnswerBy (now (buffer .entry)) (listOn (geo g) (sectorsOf g (now (image .entry))) (length (now (buffer .entry)))) ⌝ }
+    ensures { λ r. do
+      let b = now (buffer .entry)
+      ⌜ listAnswer r (now (buffer .exit)) ≡ listAnswerBy b (listOn (geo g) (sectorsOf g (now (image .entry))) (length b)) ⌝ }
 {
     if !fsck::is_sound(image, g) {
         return answers::refused(refusals::UNSOUND);
@@ -186,7 +193,7 @@ fn list_on(image: &[u8], g: Geometry, buffer: &mut [u8]) -> Filled
 pub fn list(image: &[u8], stated: Stated, buffer: &mut [u8]) -> Filled
     ensures { λ r. ⌜ listAnswer r (now (buffer .exit)) ≡ afterList (kindOf stated) (now (image .entry)) (now (buffer .entry)) ⌝ }
 {
-    match disc::geometry_of(stated, image.len()) {
+    match geometry::geometry_of(stated, image.len()) {
         Sized::Wrong => answers::refused(refusals::SIZE),
         Sized::Of(g) => list_on(image, g, buffer),
     }

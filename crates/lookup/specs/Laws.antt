@@ -12,8 +12,8 @@ use Rattle.format.specs.Geometry.{Geometry, Disc}
 use Rattle.format.specs.Names.{stored}
 use Rattle.format.specs.Layout.{Slot, find}
 use Rattle.format.specs.Check.{sound}
-use Rattle.disc.specs.Meaning.{geo, sectorsOf}
-use Rattle.disc.specs.declared.Geometry as code
+use Rattle.geometry.specs.Meaning.{geo, sectorsOf}
+use Rattle.geometry.specs.declared.Geometry as code
 use Rattle.lookup.specs.declared.Judged.{Judged}
 use Rattle.lookup.specs.Meaning.{entryOn, Judges}
 
@@ -39,10 +39,8 @@ module _ (G : Geometry) (d : Disc) (name : List ℕ) where
   unfolding entryOn _>>=_ _>>_ refuse_if_ _orRefuse_
   entry-then {A} f = by-name (stored name)
     where
-      by-find : (o : Option Slot) → (o orRefuse ABSENT >>= f) ≡ ((o orRefuse ABSENT) >>= f)
-      by-find o = refl
-
-      by-sound : (nine : List ℕ) (b : Bool) → (refuse UNSOUND if b >> (find G d nine orRefuse ABSENT >>= f)) ≡ ((refuse UNSOUND if b >> (find G d nine orRefuse ABSENT)) >>= f)
+      by-sound : (nine : List ℕ) (b : Bool)
+          → (refuse UNSOUND if b >> (find G d nine orRefuse ABSENT >>= f)) ≡ ((refuse UNSOUND if b >> (find G d nine orRefuse ABSENT)) >>= f)
       by-sound nine true = refl
       by-sound nine false = refl
 

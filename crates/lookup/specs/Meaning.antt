@@ -10,8 +10,8 @@ use Rattle.format.specs.Geometry.{Disc}
 use Rattle.format.specs.Names.{stored}
 use Rattle.format.specs.Layout.{slotsEach, Slot, slotAt, find}
 use Rattle.format.specs.Check.{sound}
-use Rattle.disc.specs.Meaning.{sectorsOf}
-use Rattle.disc.specs.declared.Geometry.{Geometry}
+use Rattle.geometry.specs.Meaning.{sectorsOf}
+use Rattle.geometry.specs.declared.Geometry.{Geometry}
 use Rattle.answers.specs.Meaning.{Refuses}
 use Rattle.lookup.specs.declared.Judged.{Judged}
 use Rattle.lookup.specs.declared.Judged.the-variants.{At, Refused}

@@ -1,11 +1,11 @@
 // The entry that a command names: the refusals that read, delete, rename and protect share, and whether its file is protected.
 use directory::Found;
-use disc::Geometry;
-use disc::SectorNo;
+use geometry::Geometry;
+use geometry::SectorNo;
 ghost use mathlib.Core.Path.{_≡_};
 ghost use Prim.Native.Nat.{_<_};
 ghost use Rattle.format.specs.Layout.{slotsEach, slotAt, attributeOf, isProtected};
-ghost use Rattle.disc.specs.Meaning.{geo, sectorsOf, Image};
+ghost use Rattle.geometry.specs.Meaning.{geo, sectorsOf, Image};
 ghost use Rattle.lookup.specs.Meaning.{entryOn, Judges};
 
 // The place of the entry that a command names, or the number of the first refusal that applies.
@@ -37,6 +37,5 @@ pub fn is_protected(image: &[u8], g: Geometry, n: SectorNo, i: usize) -> bool
     requires { ⌜ Image g (now image) × (n .0 < g .sectors) × (i < slotsEach) ⌝ }
     ensures { λ r. ⌜ r ≡ isProtected (attributeOf (slotAt (sectorsOf g (now (image .entry))) (n .0) i)) ⌝ }
 {
-    let entry = directory::entry_of(image, g, n, i);
-    entry.attribute == slots::PROTECTED
+    slots::is_protected(slots::attribute_of(image, g, n, i))
 }

@@ -1,35 +1,19 @@
 -- Laws of writing a module: a sector written in parts, and the body of each of a module's sectors by its place.
 -- Assumes nothing.
-use mathlib.Core.Path.{_≡_, refl, sym, ap, _∙_}
+use mathlib.Core.Path.{_≡_, refl, sym, ap, ap₂, _∙_}
 use Prim.Native.Nat.{ℕ, zero, suc, _+_, _*_, _-_, _≤_, _<_}
 use native.Mathlib.Omega.{arith}
 use mathlib.Core.List.{List, [], _∷_, _++_, append-assoc}
 use lib.ListN.{length, getD, set, take, drop, replicate, length-append, length-replicate}
-use lib.Seq.{sets, sets-eq, drop-drop}
-use Rattle.format.specs.Lists.{padded}
-use Rattle.format.specs.Geometry.{Geometry, stop, Disc, sector}
+use lib.Seq.{sets, drop-drop}
+use Rattle.lists.specs.Lists.{padded, word}
+use Rattle.lists.specs.ListLaws.{take-part}
+use Rattle.format.specs.Geometry.{Disc, sector}
 use Rattle.format.specs.GeometryLaws.{sector-again}
-use Rattle.format.specs.Layout.{linkBytes}
-use Rattle.format.specs.Modules.{Module, bodies, firstBody, laterBody, laterBodies, sectorsFor}
-use Rattle.format.specs.Effects.{withSlot}
+use Rattle.format.specs.Modules.{Module, endOf, bodies, firstBody, laterBody, laterBodies, sectorsFor}
 use Rattle.disc.specs.Meaning.{storedAt}
-use Rattle.disc.specs.Laws.{sets-whole}
-
--- ---- stores one after the other
-
-pub sets-append : (s : List ℕ) (k : ℕ) (xs ys : List ℕ) → sets (sets s k xs) (k + length xs) ys ≡ sets s k (xs ++ ys)
-sets-append s k [] ys = let e : k + 0 ≡ k = omega arith in ap (λ (j : ℕ). sets s j ys) e
-sets-append s k (x ∷ xs) ys =
-    let e : k + suc (length xs) ≡ suc k + length xs = omega arith in
-    ap (λ (j : ℕ). sets (sets (set s k x) (suc k) xs) j ys) e ∙ sets-append (set s k x) (suc k) xs ys
-
--- a loop that stores zeros up to place 256 of a sector that starts at byte b
-pub zeros-step : (image : List ℕ) (b i : ℕ) → i < 256
-    → sets (set image (b + i) 0) (b + (i + 1)) (replicate (256 - (i + 1)) 0) ≡ sets image (b + i) (replicate (256 - i) 0)
-zeros-step image b i h =
-    let e : b + (i + 1) ≡ suc (b + i) = omega arith in
-    let f : 256 - i ≡ suc (256 - (i + 1)) = omega arith in
-    rw (e, f)
+use Rattle.lists.specs.Stores.{sets-append, sets-whole}
+use Rattle.modules.specs.Meaning.{PartLength}
 
 -- ---- a whole sector in four stores: link, head, part, zeros
 
@@ -64,26 +48,24 @@ module _ (d : Disc) (n : ℕ) (on : n < length d) where
       ∙ append-assoc link (head ++ part) zeros
       ∙ ap (λ (j : ℕ). link ++ ((head ++ part) ++ replicate j 0)) rest)
 
--- ---- a new directory sector, written by `put_body` with its count and its first entry
-
-pub directory-sector : (G : Geometry) (entry : List ℕ) → length entry ≡ 16
-    → linkBytes G stop ++ padded 254 0 ((1 ∷ []) ++ entry) ≡ withSlot (replicate 256 0) 0 1 entry
-unfolding withSlot
-directory-sector G entry h =
-    let zeros : List ℕ = replicate 256 0 in
-    let rest : 254 - length (1 ∷ entry) ≡ 237 = omega arith in
-    let end : 2 + length (1 ∷ entry) ≡ 19 = omega arith in
-    let fits : 2 + length (1 ∷ entry) ≤ length zeros = omega (arith, length-replicate {A = ℕ} 256 0) in
-    ap (λ (k : ℕ). 0 ∷ 0 ∷ (1 ∷ entry) ++ replicate k 0) rest
-    ∙ sym (sets-append zeros 2 (1 ∷ []) entry ∙ sets-eq (1 ∷ entry) zeros 2 fits ∙ ap (λ (k : ℕ). 0 ∷ 0 ∷ (1 ∷ entry) ++ drop k zeros) end)
-
 -- ---- the body of each sector
 
--- at most `most` elements, taken by how many they are
-pub take-part : (most : ℕ) (xs : List ℕ) → take (length (take most xs)) xs ≡ take most xs
-take-part zero xs = refl
-take-part (suc n) [] = refl
-take-part (suc n) (x ∷ xs) = ap (λ (r : List ℕ). x ∷ r) (take-part n xs)
+module _ {xs : List ℕ} {at most r : ℕ} (p : PartLength xs at most r) (k : ℕ) (e : k ≡ r) where
+  part-taken : take k (drop at xs) ≡ take most (drop at xs)
+  part-taken = rw (e, p .long) (take-part most (drop at xs))
+
+-- the bytes of `head` and of `part` that the code hands to `put_body`
+pub first-part : (m : Module) {r : ℕ} → PartLength (m .bytes) 0 245 r → (k : ℕ) → k ≡ r
+    → padded 254 0 (0xFF ∷ m .page ∷ word (m .start) ++ word (endOf m) ++ word (m .transfer) ++ r ∷ take k (m .bytes)) ≡ firstBody m
+unfolding firstBody
+first-part m p k e =
+    ap₂ (λ (n : ℕ) (xs : List ℕ). padded 254 0 (0xFF ∷ m .page ∷ word (m .start) ++ word (endOf m) ++ word (m .transfer) ++ n ∷ xs))
+    (p .long) (part-taken p k e)
+
+pub later-part : {xs : List ℕ} {at r : ℕ} → PartLength xs at 253 r → (k : ℕ) → k ≡ r
+    → padded 254 0 (r ∷ take k (drop at xs)) ≡ laterBody (take 253 (drop at xs))
+unfolding laterBody
+later-part p k e = ap₂ (λ (n : ℕ) (ys : List ℕ). padded 254 0 (n ∷ ys)) (p .long) (part-taken p k e)
 
 pub body-first : (m : Module) → getD (bodies m) 0 [] ≡ firstBody m
 unfolding bodies

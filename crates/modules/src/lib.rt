@@ -1,16 +1,17 @@
 // Load modules: how many sectors one takes, and writing each of them with its link.
-use disc::Geometry;
 use disc::Link;
-use disc::SectorNo;
+use geometry::Geometry;
+use geometry::SectorNo;
 ghost use mathlib.Core.Path.{_≡_};
 ghost use Prim.Native.Nat.{_+_, _-_, _≤_, _<_};
 ghost use mathlib.Core.List.{[], _++_};
 ghost use lib.ListN.{length, getD, set, take, drop, replicate};
-ghost use Rattle.format.specs.Lists.{padded};
+ghost use Rattle.lists.specs.Lists.{padded};
 ghost use Rattle.format.specs.Layout.{linkBytes};
 ghost use Rattle.format.specs.Modules.{sectorsFor, firstBody, laterBody, bodies};
 ghost use Rattle.format.specs.ModuleLaws.{Allowed};
-ghost use Rattle.disc.specs.Meaning.{geo, meaning, sectorsOf, storedAt, Inside, Image};
+ghost use Rattle.geometry.specs.Meaning.{geo, sectorsOf, Image};
+ghost use Rattle.disc.specs.Meaning.{meaning, storedAt, Inside};
 ghost use Rattle.modules.specs.Meaning.{moduleOf, PartLength};
 
 // How many sectors a module of so many bytes takes.
@@ -29,18 +30,15 @@ fn clear_from(image: &mut [u8], g: Geometry, n: SectorNo, k: usize)
     requires { ⌜ Image g (now image) × (n .0 < g .sectors) × (k ≤ 256) ⌝ }
     ensures { λ _. ⌜ sectorsOf g (now (image .exit)) ≡ storedAt (sectorsOf g (now (image .entry))) (n .0) k (replicate (256 - k) 0) ⌝ }
 {
-    let start = disc::start_of(g, n);
-    let mut i = k;
-    while i < 256 {
-        image[start + i] = 0;
-        i += 1;
-    }
+    let start = geometry::start_of(g, n);
+    bytes::fill(image, start + k, start + 256, 0);
 }
 
 // Writes the whole of sector n: its link, and after it the bytes of `head` and of `part`, then zeros.
 pub fn put_body(image: &mut [u8], g: Geometry, n: SectorNo, next: Link, head: &[u8], part: &[u8])
     requires { ⌜ Image g (now image) × (n .0 < g .sectors) × Inside g next × (length (now head) + length (now part) ≤ 254) ⌝ }
-    ensures { λ _. ⌜ sectorsOf g (now (image .exit)) ≡ set (sectorsOf g (now (image .entry))) (n .0) (linkBytes (geo g) (meaning next) ++ padded 254 0 (now (head .entry) ++ now (part .entry))) ⌝ }
+    ensures { λ _. ⌜ sectorsOf g (now (image .exit)) ≡ set (sectorsOf g (now (image .entry))) (n .0)
+        (linkBytes (geo g) (meaning next) ++ padded 254 0 (now (head .entry) ++ now (part .entry))) ⌝ }
 {
     disc::put_link(image, g, n, next);
     disc::put(image, g, n, 2, head);
@@ -70,7 +68,8 @@ pub struct Numbers {
 // Writes sector n as the first of a module.
 fn put_first(image: &mut [u8], g: Geometry, n: SectorNo, next: Link, m: Numbers, bytes: &[u8])
     requires { ⌜ Image g (now image) × (n .0 < g .sectors) × Inside g next × Allowed (moduleOf m (now bytes)) ⌝ }
-    ensures { λ _. ⌜ sectorsOf g (now (image .exit)) ≡ set (sectorsOf g (now (image .entry))) (n .0) (linkBytes (geo g) (meaning next) ++ firstBody (moduleOf m (now (bytes .entry)))) ⌝ }
+    ensures { λ _. ⌜ sectorsOf g (now (image .exit)) ≡ set (sectorsOf g (now (image .entry))) (n .0)
+        (linkBytes (geo g) (meaning next) ++ firstBody (moduleOf m (now (bytes .entry)))) ⌝ }
 {
     let start = m.start as usize;
     let transfer = m.transfer as usize;
@@ -94,7 +93,8 @@ fn put_first(image: &mut [u8], g: Geometry, n: SectorNo, next: Link, m: Numbers,
 // Writes sector n as a later one of a module, with its bytes from place `at` on.
 fn put_later(image: &mut [u8], g: Geometry, n: SectorNo, next: Link, bytes: &[u8], at: usize)
     requires { ⌜ Image g (now image) × (n .0 < g .sectors) × Inside g next × (at ≤ length (now bytes)) ⌝ }
-    ensures { λ _. ⌜ sectorsOf g (now (image .exit)) ≡ set (sectorsOf g (now (image .entry))) (n .0) (linkBytes (geo g) (meaning next) ++ laterBody (take 253 (drop at (now (bytes .entry))))) ⌝ }
+    ensures { λ _. ⌜ sectorsOf g (now (image .exit)) ≡ set (sectorsOf g (now (image .entry))) (n .0)
+        (linkBytes (geo g) (meaning next) ++ laterBody (take 253 (drop at (now (bytes .entry))))) ⌝ }
 {
     let size = part_len(bytes, at, 253);
     let head = [size as u8];
@@ -113,7 +113,8 @@ pub fn put_nth(
     j: usize,
 )
     requires { ⌜ Image g (now image) × (n .0 < g .sectors) × Inside g next × Allowed (moduleOf m (now bytes)) × (j < sectorsFor (length (now bytes))) ⌝ }
-    ensures { λ _. ⌜ sectorsOf g (now (image .exit)) ≡ set (sectorsOf g (now (image .entry))) (n .0) (linkBytes (geo g) (meaning next) ++ getD (bodies (moduleOf m (now (bytes .entry)))) j []) ⌝ }
+    ensures { λ _. ⌜ sectorsOf g (now (image .exit)) ≡ set (sectorsOf g (now (image .entry))) (n .0)
+        (linkBytes (geo g) (meaning next) ++ getD (bodies (moduleOf m (now (bytes .entry)))) j []) ⌝ }
 {
     if j == 0 {
         put_first(image, g, n, next, m, bytes);

@@ -12,8 +12,8 @@ use borrow.Author.Tests.{lt-leb, leb-true, leb-false}
 use lib.Dec.{eqb, leb}
 use lib.ListN.{length, getD, take, drop, replicate, length-drop, drop-of-length-le, replicate-append-replicate}
 use lib.Seq.{drop-cons, take-all, take-length, take-append-seam, drop-append-add, paste}
-use Rattle.format.specs.Lists.{all, padded}
-use Rattle.format.specs.ListLaws.{padded-long}
+use Rattle.lists.specs.Lists.{all, padded}
+use Rattle.lists.specs.ListLaws.{padded-long}
 use Rattle.format.specs.NameLaws.{letters-true}
 use Rattle.format.specs.Names.{letters, dot, space, beforeDot, afterDot, nineBytes, withExtension, stored}
 

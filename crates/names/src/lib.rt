@@ -5,7 +5,7 @@ ghost use mathlib.Core.Option.{none, some};
 ghost use Prim.Native.Nat.{_+_, _≤_};
 ghost use lib.ListN.{length};
 ghost use lib.Seq.{paste};
-ghost use Rattle.format.specs.Lists.{padded};
+ghost use Rattle.lists.specs.Lists.{padded};
 ghost use Rattle.format.specs.Names.{letter, letters, beforeDot, space, withExtension, stored, discName};
 ghost use Rattle.names.specs.Answer.{parsed};
 
@@ -72,13 +72,9 @@ fn copy_at(nine: [u8; 9], at: usize, text: &[u8]) -> [u8; 9]
     requires { ⌜ at + length (now text) ≤ 9 ⌝ }
     ensures { λ r. ⌜ r ≡ paste nine at (now (text .entry)) (length (now (text .entry))) ⌝ }
 {
-    let mut bytes = nine;
-    let mut i = 0;
-    while i < text.len() {
-        bytes[at + i] = text[i];
-        i += 1;
-    }
-    bytes
+    let mut copied = nine;
+    bytes::copy(&mut copied, at, text);
+    copied
 }
 
 // The text and spaces after it.

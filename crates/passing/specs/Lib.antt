@@ -1,4 +1,4 @@
 pub mod Meaning
 pub mod Passing
 pub mod Stops
-pub mod Places
+pub mod Positions

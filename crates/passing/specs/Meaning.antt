@@ -1,4 +1,4 @@
--- What the code of the passing order goes by: the stops of a track, and the sector at a place of the order.
+-- What the code of the passing order goes by: the stops of a track, and the sector at a position of the order.
 -- Assumes nothing.
 use mathlib.Core.Path.{_≡_}
 use Prim.Native.Nat.{ℕ, _+_, _*_, _≤_, _<_}
@@ -6,8 +6,8 @@ use mathlib.Core.List.{List}
 use lib.ListN.{length, getD, drop}
 use Rattle.format.specs.Layout.{trackByte, sectorByte}
 use Rattle.format.specs.Effects.{headOf, passing}
-use Rattle.disc.specs.Meaning.{geo, placeIn}
-use Rattle.disc.specs.declared.Geometry.{Geometry}
+use Rattle.geometry.specs.Meaning.{geo, placeIn}
+use Rattle.geometry.specs.declared.Geometry.{Geometry}
 use Rattle.disc.specs.declared.Place.{Place}
 
 -- sector s of a track, and its place there
@@ -20,7 +20,7 @@ pub record Stops (g : Geometry) (xs : List ℕ) : Type 0 where
   pub long : length xs ≡ 10
   pub at : (i : ℕ) → i < geo g .perTrack → Stop g (getD (geo g .order) i 0) (getD xs i 0)
 
--- track and sector byte of what stands at place k of the passing order: of a sector, or zeros after the last
+-- track and sector byte of what stands at position k of the passing order: of a sector, or zeros after the last
 pub record Passed (g : Geometry) (k : ℕ) (r : Place) : Type 0 where
   pub track-is : r .track ≡ trackByte (geo g) (headOf (drop k (passing (geo g))))
   pub sector-is : r .sector ≡ sectorByte (geo g) (headOf (drop k (passing (geo g))))

@@ -1,4 +1,4 @@
--- The order in which a blank disc's chain passes the sectors, by place: what loops over them go by.
+-- The order in which a blank disc's chain passes the sectors, by position: what loops over them go by.
 -- Assumes nothing.
 use mathlib.Core.Path.{_≡_, refl, sym, ap, _∙_}
 use Prim.Native.Nat.{ℕ, zero, suc, _+_, _*_, _/_, _%_, _<_}
@@ -7,7 +7,7 @@ use native.Mathlib.Nat.{mul-suc, div-add-mod, mod-lt, mul-comm, div-lt-iff-lt-mu
 use mathlib.Core.List.{List, [], _∷_, _++_, map}
 use lib.ListN.{length, getD, length-append, length-map, List·getD-append}
 use lib.Seq.{getD-append-add}
-use Rattle.format.specs.Lists.{range, joined}
+use Rattle.lists.specs.Lists.{range, joined}
 use Rattle.format.specs.Geometry.{Geometry, sectors, sectorNumber}
 use Rattle.format.specs.Effects.{passing}
 

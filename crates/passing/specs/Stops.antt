@@ -8,9 +8,9 @@ use mathlib.Core.Bool.{cond}
 use lib.Dec.{eqb}
 use borrow.Author.Tests.{eq-eqb, ne-eqb}
 use Rattle.format.specs.Geometry.{ten, tenMoved, nine, stated}
-use Rattle.disc.specs.Meaning.{geo, Valid}
-use Rattle.disc.specs.Laws.{kinds, of-kind}
-use Rattle.disc.specs.declared.Geometry.{Geometry}
+use Rattle.geometry.specs.Meaning.{geo, Valid}
+use Rattle.geometry.specs.Laws.{kinds, of-kind}
+use Rattle.geometry.specs.declared.Geometry.{Geometry}
 use Rattle.passing.specs.Meaning.{Stop}
 
 formed-order : (s a : ℕ) → 9 ≤ s → s ≤ 10 → a ≤ 1 → 10 * a ≤ s → stated s a .order ≡ cond (eqb s 9) (nine .order) (ten .order)

@@ -1,25 +1,26 @@
 // The passing order: the order in which the chain of a blank disc passes the sectors.
-use disc::Geometry;
 use disc::Sector;
+use geometry::Geometry;
 ghost use mathlib.Core.Path.{_≡_};
 ghost use Prim.Native.Nat.{_%_, _<_};
 ghost use lib.ListN.{getD};
 ghost use Rattle.format.specs.Geometry.{sectorNumber};
-ghost use Rattle.disc.specs.Meaning.{geo, Valid, Lies};
+ghost use Rattle.geometry.specs.Meaning.{geo, Valid};
+ghost use Rattle.disc.specs.Meaning.{Lies};
 ghost use Rattle.passing.specs.Meaning.{Stop, Stops};
 
 // The order on a track of the early discs; that of ten sectors is the disc's, whose arrangement goes by it too.
 const ORDER_OF_NINE: [u8; 9] = [1, 4, 7, 2, 5, 8, 3, 6, 9];
 
-// The sector at place i of the order on a track.
+// The sector at position i of the order on a track.
 fn order_at(g: Geometry, i: usize) -> u8
     requires { ⌜ Valid g × (i < geo g .perTrack) ⌝ }
     ensures { λ r. ⌜ r ≡ getD (geo g .order) i 0 ⌝ }
 {
-    if g.per_track == disc::NINE {
+    if g.per_track == geometry::NINE {
         return ORDER_OF_NINE[i];
     }
-    disc::ORDER[i]
+    geometry::ORDER[i]
 }
 
 // A stop of a blank disc's chain: a sector of a track by its number there, plus 256 times its place. It is one number so that the loop along
@@ -29,7 +30,7 @@ fn stop_at(g: Geometry, i: usize) -> u16
     ensures { λ r. ⌜ Stop g (getD (geo g .order) i 0) r ⌝ }
 {
     let sector = order_at(g, i);
-    disc::offset_of(g, sector as usize) as u16 + sector as u16
+    geometry::offset_of(g, sector as usize) as u16 + sector as u16
 }
 
 // The stops of a track, in the order in which the chain passes them; of nine the last is none.
@@ -58,7 +59,7 @@ pub fn stop_on(g: Geometry, track: usize, stop: u16) -> Sector
     requires { ⌜ Valid g × (track < g .tracks) × Stop g (stop % 256) stop ⌝ }
     ensures { λ r. ⌜ (r .number .0 ≡ sectorNumber (geo g) track (stop % 256)) × Lies g r ⌝ }
 {
-    let number = disc::number_of(g, track, (stop % 256) as usize);
+    let number = geometry::number_of(g, track, (stop % 256) as usize);
     let per_track = g.per_track;
     Sector {
         number,

@@ -7,10 +7,10 @@ use mathlib.Core.Option.{Option, none, some}
 use mathlib.Core.List.{List}
 use lib.ListN.{length}
 use borrow.Author.Tests.{lt-ltb, le-ltb}
-use Rattle.disc.specs.Meaning.{geo, sectorsOf}
-use Rattle.disc.specs.declared.Geometry as code
-use Rattle.disc.specs.Laws.{Opened}
-use Rattle.format.specs.Lists.{front}
+use Rattle.geometry.specs.Meaning.{geo, sectorsOf}
+use Rattle.geometry.specs.declared.Geometry as code
+use Rattle.geometry.specs.Laws.{Opened}
+use Rattle.lists.specs.Lists.{front}
 use Rattle.format.specs.Refusals.{Try, Refusal, SIZE, NOT-PLAIN, SHORT, refused, ok, _>>=_, _>>_, refuse_if_, _orRefuse_}
 use Rattle.format.specs.Geometry.{Format, Geometry, geometry, Disc}
 use Rattle.format.specs.Layout.{Slot}

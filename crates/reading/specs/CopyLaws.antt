@@ -7,14 +7,15 @@ use native.Mathlib.Nat.{suc-sub-suc}
 use mathlib.Core.Option.{Option, none, some}
 use mathlib.Core.List.{List, [], _∷_, _++_}
 use lib.ListN.{length, set, take, drop, length-drop}
-use lib.Seq.{sets, length-sets, slice, drop-drop, sets-eq, take-all}
-use Rattle.format.specs.Lists.{byte, front}
-use Rattle.format.specs.ListLaws.{drop-take}
+use lib.Seq.{sets, length-sets, slice, drop-drop, take-all}
+use Rattle.lists.specs.Lists.{byte}
+use Rattle.lists.specs.ListLaws.{drop-take, take-part}
 use Rattle.format.specs.Geometry.{sector}
 use Rattle.format.specs.Modules.{Module, guessed, plain}
-use Rattle.disc.specs.Meaning.{sectorsOf}
-use Rattle.disc.specs.declared.Geometry.{Geometry}
-use Rattle.modules.specs.Laws.{sets-append, take-part}
+use Rattle.geometry.specs.Meaning.{sectorsOf}
+use Rattle.geometry.specs.declared.Geometry.{Geometry}
+use Rattle.lists.specs.Stores.{sets-append}
+pub use Rattle.lists.specs.Stores.{sets-front as stored-front}
 use Rattle.reading.specs.Plain.{laterBytes, sizeOf}
 use Rattle.reading.specs.Meaning.{bodiesOf, fileBodies, bodiesAfter, File, Copied, headerOf, bytesIn}
 use Rattle.reading.specs.PartLaws.{take-min}
@@ -24,13 +25,13 @@ use Rattle.reading.specs.FileLaws.{file-first}
 
 -- ---- copied parts
 
--- a part of at most m bytes of an image, from place a on, that ends at t at the latest
+-- a part of at most m bytes of an image, from position a on, that ends at t at the latest
 pub slice-front : (xs : List ℕ) (a t m size : ℕ) → a ≤ t → size ≡ min m (t - a) → take m (slice a t xs) ≡ slice a (a + size) xs
 slice-front xs a t m size h e =
     let end : min (a + m) t ≡ a + size = omega arith in
     sym (drop-take a m (take t xs)) ∙ ap (drop a) (take-min (a + m) t xs ∙ ap (λ (k : ℕ). take k xs) end)
 
--- a loop that stores the bytes of xs from place a on in a buffer from place b on
+-- a loop that stores the bytes of xs from position a on in a buffer from position b on
 pub copy-step : (xs buffer : List ℕ) (a b i e : ℕ) → a + i < e → e ≤ length xs
     → sets (set buffer (b + i) (byte xs (a + i))) (b + (i + 1)) (slice (a + (i + 1)) e xs) ≡ sets buffer (b + i) (slice (a + i) e xs)
 copy-step xs buffer a b i e h k =
@@ -54,7 +55,7 @@ copied-on {s} {k} {buffer} {buffer′} {at} {end} {r} c h ys =
     ∙ sets-append buffer at part (take (end - (at + length part)) ys)
     ∙ ap (sets buffer at) (ap (λ (j : ℕ). part ++ take j ys) left ∙ sym (take-over (end - at) (drop k s) ys))
 
--- all of what stands from place k on, where there is room for more
+-- all of what stands from offset k on, where there is room for more
 pub copied-whole : {s : List ℕ} {k : ℕ} {buffer buffer′ : List ℕ} {at end r : ℕ} → k + 253 ≡ length s → at + 253 ≤ end
     → Copied s k buffer buffer′ at (at + 253) r → Copied s k buffer buffer′ at end r
 copied-whole {s} {k} {buffer} {buffer′} {at} {end} {r} long room c =
@@ -69,17 +70,12 @@ copied-whole {s} {k} {buffer} {buffer′} {at} {end} {r} long room c =
 pub copied-long : {s : List ℕ} {k : ℕ} {buffer buffer′ : List ℕ} {at end r : ℕ} → Copied s k buffer buffer′ at end r → length buffer′ ≡ length buffer
 copied-long {s} {k} {buffer} {buffer′} {at} {end} c = ap length (c .stored) ∙ length-sets buffer at (take (end - at) (drop k s))
 
--- bytes stored over the front
-pub stored-front : (buffer xs : List ℕ) → length xs ≤ length buffer → sets buffer 0 xs ≡ front xs buffer
-stored-front buffer xs h =
-    let e : 0 + length xs ≡ length xs = omega arith in
-    sets-eq xs buffer 0 (omega arith) ∙ ap (λ (k : ℕ). xs ++ drop k buffer) e
-
 -- ---- the bytes of the module in a file
 
 pub file-bytes : {g : Geometry} {image : List ℕ} {first count : ℕ} → File g image first count
     → (size : ℕ) → size ≡ headerOf (plain (fileBodies g image first count)) .length
-    → take size (drop 11 (sector (sectorsOf g image) first) ++ laterBytes (bodiesAfter g image first (count - 1))) ≡ bytesIn (plain (fileBodies g image first count))
+    → take size (drop 11 (sector (sectorsOf g image) first) ++ laterBytes (bodiesAfter g image first (count - 1)))
+    ≡ bytesIn (plain (fileBodies g image first count))
 unfolding guessed
 file-bytes {g} {image} {first} {count} f size e = by (plain (fileBodies g image first count)) refl e
   where
@@ -92,7 +88,8 @@ file-bytes {g} {image} {first} {count} f size e = by (plain (fileBodies g image 
     by : (o : Option Module) → plain (fileBodies g image first count) ≡ o → size ≡ headerOf o .length → take size (drop 11 s ++ laterBytes bs) ≡ bytesIn o
     by none q e = ap (λ (k : ℕ). take k (drop 11 s ++ laterBytes bs)) e
     by (some m) q e =
-        let is : guessed (drop 2 s ∷ bs) ≡ m = plain-guessed (drop 2 s ∷ bs) m (sym (ap (λ (ns : List ℕ). plain (bodiesOf (sectorsOf g image) ns)) (file-first f)) ∙ q) in
+        let held = sym (ap (λ (ns : List ℕ). plain (bodiesOf (sectorsOf g image) ns)) (file-first f)) ∙ q in
+        let is : guessed (drop 2 s ∷ bs) ≡ m = plain-guessed (drop 2 s ∷ bs) m held in
         let bytes : take (sizeOf (drop 2 s)) (drop 11 s ++ laterBytes bs) ≡ m .bytes =
         ap (λ (xs : List ℕ). take (sizeOf (drop 2 s)) (xs ++ laterBytes bs)) (sym (drop-drop 9 2 s)) ∙ ap (λ (m : Module). m .bytes) is in
         let long : size ≡ length (take (sizeOf (drop 2 s)) (drop 11 s ++ laterBytes bs)) = e ∙ ap length (sym bytes) in

@@ -8,11 +8,11 @@ use mathlib.Core.Bool.{Bool, true, false, _&&_, cond, false≢true}
 use mathlib.Core.Option.{none, some}
 use mathlib.Core.List.{List, [], _∷_, _++_}
 use lib.ListN.{length, drop, length-drop, length-map}
-use lib.Seq.{drop-drop}
-use lib.Dec.{eqb}
-use Rattle.disc.specs.Laws.{image-full}
-use Rattle.format.specs.Lists.{byte, wordAt}
-use Rattle.format.specs.ListLaws.{and-true, all-map, all-mapped}
+use lib.Seq.{drop-drop, getD-drop}
+use lib.Dec.{eqb, leb}
+use Rattle.geometry.specs.Laws.{image-full}
+use Rattle.lists.specs.Lists.{byte, wordAt}
+use Rattle.lists.specs.ListLaws.{and-true, all-map, all-mapped}
 use Rattle.format.specs.Geometry as format
 use Rattle.format.specs.Geometry.{Next, stop, go, off, pointed, onDisc, sectorNumber, Disc, sector}
 use Rattle.format.specs.GeometryLaws.{pointed-on, sector-full}
@@ -20,11 +20,12 @@ use Rattle.format.specs.Layout.{Slot, lengthOf, linkOf, met, firstOf, fileChain
 use Rattle.format.specs.ChainLaws.{met-stop, met-off, met-none, met-go, met-below, chain-met}
 use Rattle.format.specs.Modules.{endOf, sectorsFor, guessed, plain}
 use Rattle.format.specs.Effects.{body, reading}
-use Rattle.soundness.specs.Filed.{GoodChain}
-use Rattle.disc.specs.Meaning.{geo, meaning, sectorsOf, Image}
-use Rattle.disc.specs.declared.Geometry.{Geometry}
+use Rattle.format.specs.RuleLaws.{GoodChain}
+use Rattle.geometry.specs.Meaning.{geo, sectorsOf, Image}
+use Rattle.disc.specs.Meaning.{meaning}
+use Rattle.geometry.specs.declared.Geometry.{Geometry}
 use Rattle.disc.specs.declared.Link.{Link}
-use Rattle.links.specs.Links.{caseOf, met-ended}
+use Rattle.link_laws.specs.Links.{caseOf, met-ended}
 use Rattle.reading.specs.Plain.{filled, laterFilled, laterBytes, sizeOf, numbered, headed}
 use Rattle.reading.specs.Meaning.{leads, after, bodyOf, bodiesOf, fileBodies, bodiesAfter, File, Followed, notPlain, headerOf, numbersIn}
 use Rattle.reading.specs.PlainLaws.{Long, plain-is, headed-size, headed-end, headed-numbered, not-numbered, other-count, by-filled}
@@ -104,6 +105,13 @@ none-follow G d n k e = ap (after G d n) e ∙ met-none G d (linkOf G (sector d 
 
 -- ---- the header in a first sector
 
+-- its numbers, read one by one
+pub numbers-read : (s : List ℕ) {ok : Bool} {mark page start end transfer size : ℕ} → mark ≡ byte s 2 → page ≡ byte s 3
+    → start ≡ wordAt s 4 → end ≡ wordAt s 6 → transfer ≡ wordAt s 8 → size ≡ end + 1 - start → ok ≡ eqb mark 0xFF && leb page 7 && leb start end
+    → _≡_ {A = Header} (record { ok = ok; page = page; start = start; end = end; transfer = transfer; length = size }) (numbersIn (body s))
+unfolding numbered
+numbers-read s m p a b t l o = simp (getD-drop, o, l, m, p, a, b, t)
+
 -- h are the numbers in the sector s: the answer after each test of `first_header`
 module _ (s : List ℕ) (count : ℕ) (h : Header) (e : h ≡ numbersIn (body s)) where
   is-numbered : {t : Bool} → h .ok ≡ t → numbered (body s) ≡ t
@@ -166,7 +174,8 @@ module _ {g : Geometry} {image : List ℕ} {first count : ℕ} (f : File g image
       bytes : (k : ℕ) → k < 8 → byte b k < 256
       bytes k h = body-small (f .on-image) small first (f .on-disc) k (omega arith)
 
-      by : (t : Bool) → headed b (length (b ∷ bs)) && laterFilled (sizeOf b - 245) bs ≡ t → headerOf (cond t (some (guessed (b ∷ bs))) none) ≡ cond t (numbersIn b) notPlain
+      by : (t : Bool) → headed b (length (b ∷ bs)) && laterFilled (sizeOf b - 245) bs ≡ t
+          → headerOf (cond t (some (guessed (b ∷ bs))) none) ≡ cond t (numbersIn b) notPlain
       by true e =
           let h = and-true (headed b (length (b ∷ bs))) (laterFilled (sizeOf b - 245) bs) e .0 in
           let ok : true ≡ numbered b = sym (headed-numbered b (length (b ∷ bs)) h) in
@@ -193,9 +202,11 @@ module _ {g : Geometry} {image : List ℕ} {first count : ℕ} (f : File g image
     pub by-later-sectors : h .ok ≡ true
         → headerOf (plain (fileBodies g image first count)) ≡ cond (laterFilled (h .length - 245) (bodiesAfter g image first (count - 1))) h notPlain
     by-later-sectors o =
+        let b : List ℕ = bodyOf g image first in
+        let bs : List (List ℕ) = bodiesAfter g image first (count - 1) in
         header-is
-        ∙ ap (λ (t : Bool). cond (t && laterFilled (sizeOf (bodyOf g image first) - 245) (bodiesAfter g image first (count - 1))) (numbersIn (bodyOf g image first)) notPlain) (is-headed ∙ o)
-        ∙ ap (λ (n : Header). cond (laterFilled (n .length - 245) (bodiesAfter g image first (count - 1))) n notPlain) (sym (by-test (is-headed ∙ o)))
+        ∙ ap (λ (t : Bool). cond (t && laterFilled (sizeOf b - 245) bs) (numbersIn b) notPlain) (is-headed ∙ o)
+        ∙ ap (λ (n : Header). cond (laterFilled (n .length - 245) bs) n notPlain) (sym (by-test (is-headed ∙ o)))
 
 -- ---- the file of an entry on a sound disc
 
@@ -203,13 +214,16 @@ module _ {g : Geometry} {image : List ℕ} {s : Slot} (i : Image g image) (file 
   pub entry-leads : (l : Link) → meaning l ≡ firstOf (geo g) s → (caseOf l ≡ 0) ⊎ (caseOf l ≡ 2) → ⊥
   unfolding fileChain
   entry-leads l e h =
-      let none : length (met (geo g) (sectorsOf g image) (format.sectors (geo g)) (meaning l)) ≡ 0 = ap length (met-ended (geo g) (sectorsOf g image) (format.sectors (geo g)) l h) in
+      let N : ℕ = format.sectors (geo g) in
+      let none : length (met (geo g) (sectorsOf g image) N (meaning l)) ≡ 0 = ap length (met-ended (geo g) (sectorsOf g image) N l h) in
       omega (arith, rw e at none, file .as-long)
 
   -- its first sector and its length are what the functions of this crate ask for, and its sectors are the whole chain
   module _ (first count : ℕ) (starts : firstOf (geo g) s ≡ go first) (on : first < g .sectors) (long : count ≡ lengthOf s) where
     whole-chain : met (geo g) (sectorsOf g image) count (go first) ≡ fileChain (geo g) (sectorsOf g image) s
-    whole-chain = ap (met (geo g) (sectorsOf g image) count) (sym starts) ∙ chain-met (geo g) (sectorsOf g image) count (file .chained) (omega (arith, file .as-long))
+    whole-chain =
+        ap (met (geo g) (sectorsOf g image) count) (sym starts)
+        ∙ chain-met (geo g) (sectorsOf g image) count (file .chained) (omega (arith, file .as-long))
 
     pub entry-file : File g image first count
     entry-file = record { on-image = i; on-disc = on; some-sector = omega arith; lasts = ap length whole-chain ∙ file .as-long ∙ sym long }

@@ -7,14 +7,14 @@ use mathlib.Core.Option.{Option, none, some}
 use mathlib.Core.List.{List, [], map}
 use lib.ListN.{length, take, drop}
 use lib.Seq.{sets}
-use Rattle.format.specs.Lists.{byte, wordAt}
+use Rattle.lists.specs.Lists.{byte, wordAt}
 use Rattle.format.specs.Geometry as format
 use Rattle.format.specs.Geometry.{Next, stop, go, off, Disc, sector}
 use Rattle.format.specs.Layout.{linkOf, met}
 use Rattle.format.specs.Modules.{Module, endOf}
 use Rattle.format.specs.Effects.{body}
-use Rattle.disc.specs.Meaning.{geo, sectorsOf, Image}
-use Rattle.disc.specs.declared.Geometry.{Geometry}
+use Rattle.geometry.specs.Meaning.{geo, sectorsOf, Image}
+use Rattle.geometry.specs.declared.Geometry.{Geometry}
 use Rattle.reading.specs.Plain.{sizeOf, numbered}
 use Rattle.reading.specs.declared.Header.{Header}
 
@@ -80,7 +80,7 @@ pub record Followed (g : Geometry) (image : List ℕ) (n k : ℕ) : Type 0 where
 
 -- ---- the buffer
 
--- the bytes of the sector s from place k on are copied into the buffer from place `at` on, up to its place `end`; r is the place after them
+-- the bytes of the sector s from offset k on are copied into the buffer from position `at` on, up to `end`; r is the position after them
 pub record Copied (s : List ℕ) (k : ℕ) (buffer buffer′ : List ℕ) (at end r : ℕ) : Type 0 where
   pub stored : buffer′ ≡ sets buffer at (take (end - at) (drop k s))
   pub next : r ≡ at + length (take (end - at) (drop k s))

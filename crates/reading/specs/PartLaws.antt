@@ -3,15 +3,14 @@
 use mathlib.Core.Path.{_≡_, refl, sym, ap, ap₂, _∙_}
 use Prim.Native.Nat.{ℕ, zero, suc, min, _-_, _<_}
 use native.Mathlib.Omega.{arith}
-use native.Mathlib.Nat.{suc-sub-suc}
 use mathlib.Core.Bool.{true}
 use mathlib.Core.List.{List, [], _∷_, _++_}
 use lib.ListN.{length, take, drop, replicate, length-take, length-drop, take-append-drop}
-use lib.Seq.{take-at, drop-at, take-nil}
+use lib.Seq.{take-at, drop-at}
 use lib.Dec.{eqb}
 use borrow.Author.Tests.{eq-eqb, eqb-true}
-use Rattle.format.specs.Lists.{all, padded}
-use Rattle.format.specs.ListLaws.{and-true, true-and}
+use Rattle.lists.specs.Lists.{all, padded}
+use Rattle.lists.specs.ListLaws.{and-true, true-and, drop-less}
 use Rattle.reading.specs.Plain.{filled}
 
 -- ---- one part: a length byte, bytes, zeros
@@ -64,12 +63,6 @@ take-min (suc a) (suc b) [] = let e : suc (min a b) ≡ min (suc a) (suc b) = om
 take-min (suc a) (suc b) (x ∷ xs) =
     let e : suc (min a b) ≡ min (suc a) (suc b) = omega arith in
     ap (λ (r : List ℕ). x ∷ r) (take-min a b xs) ∙ ap (λ (k : ℕ). take k (x ∷ xs)) e
-
-drop-less : (n k : ℕ) (xs : List ℕ) → drop n (take k xs) ≡ take (k - n) (drop n xs)
-drop-less zero k xs = let e : k ≡ k - 0 = omega arith in ap (λ (j : ℕ). take j xs) e
-drop-less (suc n) zero xs = let e : 0 ≡ 0 - suc n = omega arith in ap (λ (j : ℕ). take j (drop (suc n) xs)) e
-drop-less (suc n) (suc k) [] = sym (take-nil (suc k - suc n))
-drop-less (suc n) (suc k) (x ∷ xs) = drop-less n k xs ∙ ap (λ (j : ℕ). take j (drop n xs)) (sym (suc-sub-suc k n))
 
 module _ (k left : ℕ) (xs ys : List ℕ) (long : length xs ≡ k) where
   pub first-part : take k (take left (xs ++ ys)) ≡ take left xs

@@ -6,7 +6,7 @@ use mathlib.Core.Bool.{Bool, true, false, _&&_}
 use mathlib.Core.List.{List, [], _∷_, map}
 use lib.ListN.{length, take, drop}
 use lib.Dec.{eqb, leb}
-use Rattle.format.specs.Lists.{all, byte, wordAt, joined}
+use Rattle.lists.specs.Lists.{all, byte, wordAt, joined}
 use Rattle.format.specs.Modules.{sectorsFor}
 
 -- how many bytes the module has, by the start and end address in its first sector

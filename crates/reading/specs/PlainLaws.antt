@@ -11,8 +11,8 @@ use lib.ListN.{length, take, drop, replicate, length-append, length-take, length
 use lib.Seq.{drop-drop, drop-cons}
 use lib.Dec.{eqb, leb}
 use borrow.Author.Tests.{eq-eqb, ne-eqb, eqb-true, le-leb, leb-true}
-use Rattle.format.specs.Lists.{byte, word, wordAt, padded, sameAll}
-use Rattle.format.specs.ListLaws.{and-true, true-and, All, done, _also_, sameAll-refl, sameAll-true}
+use Rattle.lists.specs.Lists.{byte, word, wordAt, padded, sameAll}
+use Rattle.lists.specs.ListLaws.{and-true, true-and, All, done, _also_, sameAll-refl, sameAll-true}
 use Rattle.format.specs.Modules.{Module, endOf, allowed, sectorsFor, firstBody, laterBody, laterBodies, bodies, guessed, plain}
 use Rattle.format.specs.ModuleLaws.{Allowed, allowed-true, true-allowed, sectors-fit, bodies-many}
 use Rattle.reading.specs.Plain.{sizeOf, filled, numbered, headed, laterFilled, laterBytes}
@@ -249,14 +249,16 @@ module _ (b : List ℕ) (bs : List (List ℕ)) (long : length b ≡ 254) (longs 
   tests : allowed (guessed (b ∷ bs)) && sameAll (bodies (guessed (b ∷ bs))) (b ∷ bs) ≡ headed b (length (b ∷ bs)) && laterFilled (sizeOf b - 245) bs
   tests = both-ways _ _ there back
     where
-      there : allowed (guessed (b ∷ bs)) && sameAll (bodies (guessed (b ∷ bs))) (b ∷ bs) ≡ true → headed b (length (b ∷ bs)) && laterFilled (sizeOf b - 245) bs ≡ true
+      there : allowed (guessed (b ∷ bs)) && sameAll (bodies (guessed (b ∷ bs))) (b ∷ bs) ≡ true
+          → headed b (length (b ∷ bs)) && laterFilled (sizeOf b - 245) bs ≡ true
       there e =
           let h = and-true (allowed (guessed (b ∷ bs))) (sameAll (bodies (guessed (b ∷ bs))) (b ∷ bs)) e in
           let a = allowed-true (guessed (b ∷ bs)) (h .0) in
           let same = sameAll-true (bodies (guessed (b ∷ bs))) (b ∷ bs) (h .1) in
           true-and (true-headed b (length (b ∷ bs)) (bodies-headed a same)) (bodies-later a same)
 
-      back : headed b (length (b ∷ bs)) && laterFilled (sizeOf b - 245) bs ≡ true → allowed (guessed (b ∷ bs)) && sameAll (bodies (guessed (b ∷ bs))) (b ∷ bs) ≡ true
+      back : headed b (length (b ∷ bs)) && laterFilled (sizeOf b - 245) bs ≡ true
+          → allowed (guessed (b ∷ bs)) && sameAll (bodies (guessed (b ∷ bs))) (b ∷ bs) ≡ true
       back e =
           let h = and-true (headed b (length (b ∷ bs))) (laterFilled (sizeOf b - 245) bs) e in
           let k = headed-true b (length (b ∷ bs)) (h .0) in

@@ -9,19 +9,19 @@ use lib.ListN.{length, take, drop, length-take, length-drop}
 use lib.Seq.{slice, slice-cons, slice-empty, getD-drop, drop-cons, drop-drop}
 use lib.Dec.{eqb}
 use borrow.Author.Tests.{eq-eqb, ne-eqb}
-use Rattle.disc.specs.Laws.{each-once}
-use Rattle.format.specs.Lists.{all, byte}
-use Rattle.format.specs.ListLaws.{drop-take}
+use Rattle.geometry.specs.Laws.{each-once}
+use Rattle.lists.specs.Lists.{all, byte}
+use Rattle.lists.specs.ListLaws.{drop-take}
 use Rattle.format.specs.Geometry.{startOf, sector}
 use Rattle.format.specs.GeometryLaws.{sector-cut, byte-cut}
 use Rattle.format.specs.Effects.{body}
-use Rattle.disc.specs.Meaning.{geo, sectorsOf, Image, form}
-use Rattle.disc.specs.declared.Geometry.{Geometry}
+use Rattle.geometry.specs.Meaning.{geo, sectorsOf, Image, form}
+use Rattle.geometry.specs.declared.Geometry.{Geometry}
 use Rattle.reading.specs.Plain.{filled}
 
 -- ---- a sector's bytes in its image
 
--- from place k on
+-- from offset k on
 pub sector-from : {g : Geometry} {image : List ℕ} → Image g image → (n k : ℕ) → n < g .sectors
     → drop k (sector (sectorsOf g image) n) ≡ slice (startOf (form g) (geo g) n + k) (startOf (form g) (geo g) n + 256) image
 sector-from {g} {image} i n k on =
@@ -29,7 +29,7 @@ sector-from {g} {image} i n k on =
     ap (drop k) (sector-cut (form g) (geo g) (each-once (i .valid)) image n (omega (arith, i .valid .total)) ∙ sym (drop-take start 256 image))
     ∙ drop-drop k start (take (start + 256) image)
 
--- a loop over the places from a + i on, up to e
+-- a loop over the positions from a + i on, up to e
 module _ (xs : List ℕ) (a i e : ℕ) (before : a + i < e) (inside : e ≤ length xs) where
   pub slice-step : slice (a + i) e xs ≡ byte xs (a + i) ∷ slice (a + (i + 1)) e xs
   slice-step =
@@ -49,7 +49,8 @@ slice-end xs a i e h = ap (λ (j : ℕ). slice j e xs) h ∙ slice-empty e xs
 pub body-small : {g : Geometry} {image : List ℕ} → Image g image → ((i : ℕ) → byte image i < 256)
     → (n : ℕ) → n < g .sectors → (k : ℕ) → k < 254 → byte (body (sector (sectorsOf g image) n)) k < 256
 body-small {g} {image} i small n on k h =
-    let e = getD-drop 2 (sector (sectorsOf g image) n) k 0 ∙ byte-cut (form g) (geo g) (each-once (i .valid)) image n (2 + k) (omega (arith, i .valid .total)) (omega arith) in
+    let e = getD-drop 2 (sector (sectorsOf g image) n) k 0
+    ∙ byte-cut (form g) (geo g) (each-once (i .valid)) image n (2 + k) (omega (arith, i .valid .total)) (omega arith) in
     omega (arith, e, small (startOf (form g) (geo g) n + (2 + k)))
 
 -- ---- how a sector is filled
@@ -70,10 +71,11 @@ module _ (s : List ℕ) (k left size : ℕ) (long : length s ≡ 256) (on : k < 
   unfolding filled
   filled-yes q =
       let same : byte s k ≡ length (take left (drop (suc k) s)) = q ∙ sym fits in
-      let place : suc k + size ≡ k + 1 + size = omega arith in
+      let next : suc k + size ≡ k + 1 + size = omega arith in
+      let rest = sym (drop-most left (drop (suc k) s)) ∙ ap (λ (j : ℕ). drop j (drop (suc k) s)) fits ∙ drop-drop size (suc k) s in
       ap (filled left) after-byte
       ∙ ap (λ (t : Bool). t && all (eqb 0) (drop left (drop (suc k) s))) (eq-eqb _ _ same)
-      ∙ ap (all (eqb 0)) (sym (drop-most left (drop (suc k) s)) ∙ ap (λ (j : ℕ). drop j (drop (suc k) s)) fits ∙ drop-drop size (suc k) s ∙ ap (λ (j : ℕ). drop j s) place)
+      ∙ ap (all (eqb 0)) (rest ∙ ap (λ (j : ℕ). drop j s) next)
 
   pub filled-no : (byte s k ≡ size → ⊥) → filled left (drop k s) ≡ false
   unfolding filled

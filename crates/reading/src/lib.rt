@@ -1,24 +1,25 @@
 // Reading a load module back: whether a file's sectors hold one, its numbers, and its bytes; and read, the public call.
-use disc::Geometry;
 use disc::Link;
 use disc::Sector;
-use disc::SectorNo;
-use disc::Sized;
-use disc::Stated;
+use geometry::Geometry;
+use geometry::SectorNo;
+use geometry::Sized;
+use geometry::Stated;
 use lookup::Judged;
 ghost use mathlib.Core.Path.{_≡_};
 ghost use Prim.Native.Nat.{min, _+_, _-_, _≤_, _<_};
 ghost use mathlib.Core.Bool.{true, _&&_, cond};
 ghost use lib.ListN.{length, drop};
 ghost use lib.Dec.{eqb, leb};
-ghost use Rattle.format.specs.Lists.{all, front};
+ghost use Rattle.lists.specs.Lists.{all, front};
 ghost use Rattle.format.specs.Geometry.{go, sector};
 ghost use Rattle.format.specs.Layout.{slotsEach, lengthOf, slotAt, linkOf};
 ghost use Rattle.format.specs.Modules.{plain};
 ghost use Rattle.format.specs.Effects.{reading};
 ghost use Rattle.format.specs.Calls.{readOn, readAnswerBy, afterRead};
-ghost use Rattle.soundness.specs.Filed.{GoodChain};
-ghost use Rattle.disc.specs.Meaning.{kindOf, geo, sectorsOf, Image, Lies};
+ghost use Rattle.format.specs.RuleLaws.{GoodChain};
+ghost use Rattle.geometry.specs.Meaning.{kindOf, geo, sectorsOf, Image};
+ghost use Rattle.disc.specs.Meaning.{Lies};
 ghost use Rattle.reading.specs.Plain.{filled, headed, laterFilled};
 ghost use Rattle.reading.specs.Meaning.{notPlain, headerOf, bytesIn, numbersIn, leads, bodyOf, fileBodies, bodiesAfter, File, Copied};
 ghost use Rattle.reading.specs.Answer.{readAnswer, refusal, fileOn};
@@ -60,23 +61,16 @@ fn saturating_sub(a: usize, b: usize) -> usize
     a - b
 }
 
-// Whether the bytes of sector s from place k on are zero.
+// Whether the bytes of sector s from offset k on are zero.
 fn zero_from(image: &[u8], g: Geometry, s: Sector, k: usize) -> bool
     requires { ⌜ Image g (now image) × Lies g s × (k ≤ 256) ⌝ }
     ensures { λ r. ⌜ r ≡ all (eqb 0) (drop k (sector (sectorsOf g (now (image .entry))) (s .number .0))) ⌝ }
 {
     let start = s.start;
-    let mut i = k;
-    while i < 256 {
-        if image[start + i] != 0 {
-            return false;
-        }
-        i += 1;
-    }
-    true
+    bytes::are_all(image, start + k, start + 256, 0)
 }
 
-// Whether sector s is filled from its length byte at place k on, where so many bytes are left.
+// Whether sector s is filled from its length byte at offset k on, where so many bytes are left.
 fn filled_at(image: &[u8], g: Geometry, s: Sector, k: usize, left: usize) -> bool
     requires { ⌜ Image g (now image) × Lies g s × (k < 256) ⌝ }
     ensures { λ r. ⌜ r ≡ filled left (drop k (sector (sectorsOf g (now (image .entry))) (s .number .0))) ⌝ }
@@ -181,7 +175,7 @@ fn plain_header(image: &[u8], g: Geometry, first: Sector, count: usize) -> Heade
     header
 }
 
-// Copies the bytes of sector s from place k on into the buffer from place `at` on, up to its place `end`. Gives the place after them.
+// Copies the bytes of sector s from offset k on into the buffer from position `at` on, up to `end`. Gives the position after them.
 fn copy_part(
     image: &[u8],
     g: Geometry,
@@ -196,11 +190,8 @@ fn copy_part(
 {
     let start = s.start + k;
     let size = min(end - at, 256 - k);
-    let mut i: usize = 0;
-    while i < size {
-        buffer[at + i] = image[start + i];
-        i += 1;
-    }
+    let stop = start + size;
+    bytes::copy(buffer, at, &image[start..stop]);
     at + size
 }
 
@@ -279,7 +270,9 @@ fn read_module(
     buffer: &mut [u8],
 ) -> Reading
     requires { ⌜ File g (now image) (first .0) count ⌝ }
-    ensures { λ r. ⌜ readAnswer r (now (buffer .exit)) ≡ readAnswerBy (now (buffer .entry)) (fileOn (plain (fileBodies g (now (image .entry)) (first .0) count)) (length (now (buffer .entry)))) ⌝ }
+    ensures { λ r. do
+      let b = now (buffer .entry)
+      ⌜ readAnswer r (now (buffer .exit)) ≡ readAnswerBy b (fileOn (plain (fileBodies g (now (image .entry)) (first .0) count)) (length b)) ⌝ }
 {
     let at = disc::sector_of(g, first);
     let header = plain_header(image, g, at, count);
@@ -309,9 +302,10 @@ fn read_file(image: &[u8], g: Geometry, n: SectorNo, i: usize, buffer: &mut [u8]
       ⌜ Image g (now image) × (n .0 < g .sectors) × (i < slotsEach) × GoodChain (geo g) d s × (1 ≤ lengthOf s) ⌝ }
     ensures { λ r. do
       let d = sectorsOf g (now (image .entry))
-      ⌜ readAnswer r (now (buffer .exit)) ≡ readAnswerBy (now (buffer .entry)) (fileOn (reading (geo g) d (slotAt d (n .0) i)) (length (now (buffer .entry)))) ⌝ }
+      let b = now (buffer .entry)
+      ⌜ readAnswer r (now (buffer .exit)) ≡ readAnswerBy b (fileOn (reading (geo g) d (slotAt d (n .0) i)) (length b)) ⌝ }
 {
-    let entry = directory::entry_of(image, g, n, i);
+    let entry = slots::entry_of(image, g, n, i);
     let start = entry.first;
     let Link::To(first) = start else {
         return refused(refusals::UNSOUND);
@@ -321,7 +315,9 @@ fn read_file(image: &[u8], g: Geometry, n: SectorNo, i: usize, buffer: &mut [u8]
 
 fn read_on(image: &[u8], g: Geometry, name: &[u8], buffer: &mut [u8]) -> Reading
     requires { ⌜ Image g (now image) ⌝ }
-    ensures { λ r. ⌜ readAnswer r (now (buffer .exit)) ≡ readAnswerBy (now (buffer .entry)) (readOn (geo g) (sectorsOf g (now (image .entry))) (now (name .entry)) (length (now (buffer .entry)))) ⌝ }
+    ensures { λ r. do
+      let b = now (buffer .entry)
+      ⌜ readAnswer r (now (buffer .exit)) ≡ readAnswerBy b (readOn (geo g) (sectorsOf g (now (image .entry))) (now (name .entry)) (length b)) ⌝ }
 {
     match lookup::entry_on(image, g, name) {
         Judged::Refused(number) => refused(number),
@@ -332,7 +328,7 @@ fn read_on(image: &[u8], g: Geometry, name: &[u8], buffer: &mut [u8]) -> Reading
 pub fn read(image: &[u8], stated: Stated, name: &[u8], buffer: &mut [u8]) -> Reading
     ensures { λ r. ⌜ readAnswer r (now (buffer .exit)) ≡ afterRead (kindOf stated) (now (image .entry)) (now (name .entry)) (now (buffer .entry)) ⌝ }
 {
-    match disc::geometry_of(stated, image.len()) {
+    match geometry::geometry_of(stated, image.len()) {
         Sized::Wrong => refused(refusals::SIZE),
         Sized::Of(g) => read_on(image, g, name, buffer),
     }

@@ -4,22 +4,16 @@ use mathlib.Core.Path.{_≡_, refl, sym, ap, ap₂, _∙_, subst}
 use Prim.Native.Nat.{ℕ, suc, _+_, _≤_}
 use native.Mathlib.Omega.{arith}
 use mathlib.Core.List.{List, [], _∷_, _++_}
-use lib.ListN.{length, set, drop, length-append}
-use lib.Seq.{sets, length-sets, sets-eq}
-use Rattle.format.specs.Lists.{front}
+use lib.ListN.{length, set, length-append}
+use lib.Seq.{sets, length-sets}
+use Rattle.lists.specs.Stores.{sets-append}
 
--- Bytes were stored at a place of a buffer: the buffer afterwards, and the place after the bytes.
+-- Bytes were stored in a buffer: the buffer afterwards, and the position after the bytes.
 pub record Stored (before : List ℕ) (at : ℕ) (bytes after : List ℕ) (next : ℕ) : Type 0 where
   pub buffer : after ≡ sets before at bytes
   pub place : next ≡ at + length bytes
 
-sets-join : (b : List ℕ) (at : ℕ) (xs ys : List ℕ) → sets b at (xs ++ ys) ≡ sets (sets b at xs) (at + length xs) ys
-sets-join b at [] ys = let e : at ≡ at + 0 = omega arith in ap (λ (k : ℕ). sets b k ys) e
-sets-join b at (x ∷ xs) ys =
-    let e : suc at + length xs ≡ at + suc (length xs) = omega arith in
-    sets-join (set b at x) (suc at) xs ys ∙ ap (λ (k : ℕ). sets (sets (set b at x) (suc at) xs) k ys) e
-
--- Storing what is left at a place of the buffer b gives what storing all of it at its place gives in the buffer before.
+-- Storing what is left in the buffer b at its position gives what storing all of it gives in the buffer before.
 pub record Storing (before : List ℕ) (from : ℕ) (all : List ℕ) (b : List ℕ) (at : ℕ) (left : List ℕ) : Type 0 where
   pub buffer : sets b at left ≡ sets before from all
   pub place : at + length left ≡ from + length all
@@ -34,7 +28,10 @@ module _ {before all b : List ℕ} {from at : ℕ} where
       → {b′ : List ℕ} {next : ℕ} → Stored b at xs b′ next → Storing before from all b′ next ys
   storing-step xs ys s e {b′} {next} t =
       record {
-        buffer = ap₂ (λ (x : List ℕ) (k : ℕ). sets x k ys) (t .buffer) (t .place) ∙ sym (sets-join b at xs ys) ∙ ap (sets b at) (sym e) ∙ s .buffer;
+        buffer = ap₂ (λ (x : List ℕ) (k : ℕ). sets x k ys) (t .buffer) (t .place)
+            ∙ sets-append b at xs ys
+            ∙ ap (sets b at) (sym e)
+            ∙ s .buffer;
         place = omega (arith, t .place, s .place, ap length e, length-append xs ys);
         long = ap length (t .buffer) ∙ length-sets b at xs ∙ s .long;
       }
@@ -66,12 +63,6 @@ stored-three b at x xs ys {b′} {next} e p =
     let one : at + 1 ≡ suc at = omega arith in
     let two : next ≡ suc at + length xs = omega arith in
     record {
-      buffer = e ∙ ap₂ (λ (j k : ℕ). sets (sets (set b at x) j xs) k ys) one two ∙ sym (sets-join (set b at x) (suc at) xs ys);
+      buffer = e ∙ ap₂ (λ (j k : ℕ). sets (sets (set b at x) j xs) k ys) one two ∙ sets-append (set b at x) (suc at) xs ys;
       place = omega (arith, length-append xs ys);
     }
-
--- "They stand at the front of the lent buffer, its rest unchanged"
-pub sets-front : (b xs : List ℕ) → length xs ≤ length b → sets b 0 xs ≡ front xs b
-sets-front b xs h =
-    let z : 0 + length xs ≡ length xs = omega arith in
-    sets-eq xs b 0 (omega arith) ∙ ap (λ (k : ℕ). xs ++ drop k b) z

@@ -8,21 +8,22 @@ use native.Mathlib.Nat.{lt-of-not-le}
 use mathlib.Core.Bool.{Bool, true, false, not}
 use mathlib.Core.List.{List, [], _∷_, _++_, map}
 use lib.ListN.{length}
-use Rattle.format.specs.Lists.{elem, consIf, filter, times}
-use Rattle.format.specs.ListLaws.{All, done, _also_, all-map, at-all, all-filter}
+use Rattle.lists.specs.Lists.{elem, consIf, filter, times}
+use Rattle.lists.specs.ListLaws.{All, done, _also_, all-map, at-all, all-filter}
 use Rattle.format.specs.Geometry.{Geometry, sectors, Next, Disc, sector, pointed, written}
 use Rattle.format.specs.GeometryLaws.{sector-full}
 use Rattle.format.specs.Layout.{trackByte, sectorByte, directory, fileSectors}
 use Rattle.format.specs.Effects.{body, headOf, chained, systemWrite, passing, unmet, repairWrites}
-use Rattle.soundness.specs.Counts.{times-kept, times-lost}
+use Rattle.lists.specs.Counts.{times-kept, times-lost}
 use Rattle.soundness.specs.Passing.{passed-once, passed-not}
 use Rattle.soundness.specs.Pointers.{Bounded, head-pointable, pair-back}
-use Rattle.disc.specs.Meaning.{geo, sectorsOf, meaning, Valid, Image}
-use Rattle.disc.specs.Laws.{good, image-full}
-use Rattle.disc.specs.declared.Geometry as code
+use Rattle.geometry.specs.Meaning.{geo, sectorsOf, Valid, Image}
+use Rattle.disc.specs.Meaning.{meaning}
+use Rattle.geometry.specs.Laws.{good, image-full}
+use Rattle.geometry.specs.declared.Geometry as code
 use Rattle.disc.specs.declared.Link.{Link}
 use Rattle.disc.specs.declared.Place.{Place}
-use Rattle.fsck.specs.Marks.{clear}
+use Rattle.fsck_chains.specs.Marks.{clear}
 use Rattle.fsck.specs.Rules.{marksOf, Stood, clear-is}
 use Rattle.repairing.specs.Threads.{linked, unmarked, linked-system}
 use Rattle.repairing.specs.Meaning.{Threaded}

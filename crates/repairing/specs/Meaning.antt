@@ -1,4 +1,4 @@
--- What the loops that thread the free sectors have done when they have come to place k of the passing order, and their turns.
+-- What the loops that thread the free sectors have done when they have come to position k of the passing order, and their turns.
 -- Assumes nothing.
 use mathlib.Core.Path.{_≡_, refl, sym, ap, ap₂, subst, _∙_}
 use mathlib.Core.Logic.{_≢_}
@@ -7,19 +7,20 @@ use native.Mathlib.Omega.{arith}
 use mathlib.Core.List.{List, [], _∷_}
 use lib.ListN.{length, getD, drop-of-length-le}
 use borrow.Author.Tests.{eq-eqb, ne-eqb}
-use Rattle.format.specs.Lists.{filter}
+use Rattle.lists.specs.Lists.{filter}
 use Rattle.format.specs.Geometry.{Disc, sectorNumber}
 use Rattle.format.specs.Layout.{linkPlace, linkBytes, trackByte, sectorByte}
 use Rattle.format.specs.Effects.{headOf, passing}
-use Rattle.disc.specs.Meaning.{geo, sectorsOf, storedAt, Valid}
-use Rattle.disc.specs.declared.Geometry.{Geometry}
+use Rattle.geometry.specs.Meaning.{geo, sectorsOf, Valid}
+use Rattle.disc.specs.Meaning.{storedAt}
+use Rattle.geometry.specs.declared.Geometry.{Geometry}
 use Rattle.disc.specs.declared.Place.{Place}
 use Rattle.passing.specs.Meaning.{Stop, Passed}
-use Rattle.passing.specs.Places.{passing-as-long, next-go, track-inside, stop-number}
-use Rattle.fsck.specs.Marks.{clear}
+use Rattle.passing.specs.Positions.{passing-as-long, next-go, track-inside, stop-number}
+use Rattle.fsck_chains.specs.Marks.{clear}
 use Rattle.repairing.specs.Threads.{linked, unmarked, unmarked-more, unmarked-same}
 
--- the sectors without a mark, from place k on, are linked; track and sector byte of the first of them, and how many they are
+-- the sectors without a mark, from position k on, are linked; track and sector byte of the first of them, and how many they are
 pub record Threaded (g : Geometry) (m before : List ℕ) (k : ℕ) (first : Place) (count : ℕ) (after : List ℕ) : Type 0 where
   pub kept : length after ≡ length before
   pub track-is : first .track ≡ trackByte (geo g) (headOf (unmarked (geo g) m k))
@@ -27,13 +28,13 @@ pub record Threaded (g : Geometry) (m before : List ℕ) (k : ℕ) (first : Plac
   pub counted : count ≡ length (unmarked (geo g) m k)
   pub sectors-are : sectorsOf g after ≡ linked (geo g) (unmarked (geo g) m k) (sectorsOf g before)
 
--- a chain that begins at place j is extended to place k: where the sectors from j on were threaded, those from k on are
+-- a chain that begins at position j is extended to position k: where the sectors from j on were threaded, those from k on are
 pub record Extends (g : Geometry) (m : List ℕ) (j : ℕ) (first₀ : Place) (count₀ : ℕ) (x : List ℕ)
     (k : ℕ) (first : Place) (count : ℕ) (y : List ℕ) : Type 0 where
   pub few : count + k ≤ g .sectors
   pub threads : (before : List ℕ) → Threaded g m before j first₀ count₀ x → Threaded g m before k first count y
 
--- the same place, said otherwise
+-- the same position, said otherwise
 pub thread-as : {g : Geometry} {m before after : List ℕ} {first : Place} {count : ℕ} {j k : ℕ} → j ≡ k → Threaded g m before j first count after
     → Threaded g m before k first count after
 thread-as {g} {m} {before} {after} {first} {count} e t = subst (λ (n : ℕ). Threaded g m before n first count after) e t
@@ -56,7 +57,7 @@ thread-start {g} v m image k e first t s =
         let past : length (passing (geo g)) ≤ k = omega (arith, passing-as-long v) in
         ap (filter (clear m)) (drop-of-length-le (passing (geo g)) past)
 
--- ---- the sector at place k, before a chain that begins at the next place
+-- ---- the sector at position k, before a chain that begins at the next
 
 module _ {g : Geometry} (v : Valid g) {m before : List ℕ} (j k : ℕ) (next : j ≡ k + 1) (on : k < g .sectors) {first : Place} {count : ℕ} {after : List ℕ}
     (t : Threaded g m before j first count after) where
@@ -97,35 +98,35 @@ module _ {g : Geometry} (v : Valid g) {m before : List ℕ} (j k : ℕ) (next : 
             ∙ ap (λ (xs : List ℕ). linked (geo g) xs (sectorsOf g before)) (sym more);
       }
 
--- ---- the turns of the loop along a track, whose sector n at place i the code has as a stop
+-- ---- the turns of the loop along a track, whose sector n at position i the code has as a stop
 
 module _ {g : Geometry} (v : Valid g) (track i : ℕ) (on : track < g .tracks) (h : i < geo g .perTrack) (stop : ℕ) (is : Stop g (getD (geo g .order) i 0) stop)
     (n : ℕ) (numbered : n ≡ sectorNumber (geo g) track (stop % 256))
     {m x : List ℕ} {from : ℕ} {first₀ : Place} {count₀ : ℕ} (j : ℕ) (next : j ≡ geo g .perTrack * track + i + 1) {first : Place} {count : ℕ} {y : List ℕ}
     (t : Extends g m from first₀ count₀ x j first count y) where
-  abbrev place : ℕ
-  place = geo g .perTrack * track + i
+  abbrev position : ℕ
+  position = geo g .perTrack * track + i
 
-  sector-is : n ≡ getD (passing (geo g)) place 0
+  sector-is : n ≡ getD (passing (geo g)) position 0
   sector-is = numbered ∙ stop-number v track i on h stop is
 
-  mark-is : getD m (getD (passing (geo g)) place 0) 0 ≡ getD m n 0
+  mark-is : getD m (getD (passing (geo g)) position 0) 0 ≡ getD m n 0
   mark-is = ap (λ (n : ℕ). getD m n 0) (sym sector-is)
 
-  pub extend-skip : getD m n 0 ≢ 0 → Extends g m from first₀ count₀ x place first count y
+  pub extend-skip : getD m n 0 ≢ 0 → Extends g m from first₀ count₀ x position first count y
   extend-skip marked =
       record {
         few = omega (arith, t .few);
-        threads = λ before b. thread-skip v j place next (track-inside v track i on h) (t .threads before b) (λ e. marked (sym mark-is ∙ e));
+        threads = λ before b. thread-skip v j position next (track-inside v track i on h) (t .threads before b) (λ e. marked (sym mark-is ∙ e));
       }
 
-  pub extend-more : {r : Place} {new : List ℕ} → getD m n 0 ≡ 0 → Passed g place r → length new ≡ length y
-      → sectorsOf g new ≡ storedAt (sectorsOf g y) n linkPlace (first .track ∷ first .sector ∷ []) → Extends g m from first₀ count₀ x place r (count + 1) new
+  pub extend-more : {r : Place} {new : List ℕ} → getD m n 0 ≡ 0 → Passed g position r → length new ≡ length y
+      → sectorsOf g new ≡ storedAt (sectorsOf g y) n linkPlace (first .track ∷ first .sector ∷ []) → Extends g m from first₀ count₀ x position r (count + 1) new
   extend-more {r} {new} clear p same e =
       let stored = e ∙ ap (λ (n : ℕ). storedAt (sectorsOf g y) n linkPlace (first .track ∷ first .sector ∷ [])) sector-is in
       record {
         few = omega (arith, t .few);
-        threads = λ before b. thread-more v j place next (track-inside v track i on h) (t .threads before b) (mark-is ∙ clear) p same stored;
+        threads = λ before b. thread-more v j position next (track-inside v track i on h) (t .threads before b) (mark-is ∙ clear) p same stored;
       }
 
 -- ---- the ends of that loop

@@ -11,15 +11,15 @@ use mathlib.Core.List.{List, [], _∷_, _++_, map}
 use lib.ListN.{length, getD, set, drop}
 use lib.Seq.{sets, sets-eq, set-comm, drop-cons}
 use native.Mathlib.Numerals.{add-one}
-use Rattle.format.specs.Lists.{filter, times}
-use Rattle.format.specs.ListLaws.{All, head-of, tail-of, times-here, times-past, filter-yes, filter-no}
+use Rattle.lists.specs.Lists.{filter, times}
+use Rattle.lists.specs.ListLaws.{All, head-of, tail-of, times-here, times-past, filter-yes, filter-no}
 use Rattle.format.specs.Geometry.{Geometry, Disc, sector, written}
 use Rattle.format.specs.Layout.{linkPlace, system, linkBytes}
 use Rattle.format.specs.Effects.{body, headOf, passing, chained, systemWrite}
 use Rattle.disc.specs.Meaning.{storedAt}
 use Rattle.soundness.specs.ChainWrites.{chained-other}
 use Rattle.system.specs.Laws.{system-from}
-use Rattle.fsck.specs.Marks.{clear}
+use Rattle.fsck_chains.specs.Marks.{clear}
 
 module _ (G : Geometry) where
   -- the disc with the sectors linked in order, the last one first
@@ -27,11 +27,11 @@ module _ (G : Geometry) where
   linked [] d = d
   linked (n ∷ ns) d = storedAt (linked ns d) n linkPlace (linkBytes G (headOf ns))
 
-  -- the sectors without a mark, from place k of the passing order on
+  -- the sectors without a mark, from position k of the passing order on
   unfoldable pub unmarked : List ℕ → ℕ → List ℕ
   unmarked m k = filter (clear m) (drop k (passing G))
 
-  -- ---- one place further to the front
+  -- ---- one position further to the front
 
   module _ (m : List ℕ) (j k : ℕ) (next : k ≡ j + 1) (on : j < length (passing G)) where
     here : drop j (passing G) ≡ getD (passing G) j 0 ∷ drop k (passing G)

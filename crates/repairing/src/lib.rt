@@ -1,13 +1,13 @@
 // The repair of a disc whose rules 1 to 5 hold: every sector that neither the directory nor a file meets goes into a new free chain.
-use disc::Geometry;
 use disc::Place;
-use disc::Sized;
-use disc::Stated;
 use fsck::Standing;
+use geometry::Geometry;
+use geometry::Sized;
+use geometry::Stated;
 ghost use mathlib.Core.Path.{_≡_};
 ghost use Prim.Native.Nat.{_+_, _*_, _≤_, _<_};
 ghost use Rattle.format.specs.Calls.{answered, repairOn, afterRepair};
-ghost use Rattle.disc.specs.Meaning.{kindOf, geo, sectorsOf, Image};
+ghost use Rattle.geometry.specs.Meaning.{kindOf, geo, sectorsOf, Image};
 ghost use Rattle.passing.specs.Meaning.{Stops};
 ghost use Rattle.answers.specs.Meaning.{Leaves};
 ghost use Rattle.repairing.specs.Meaning.{Threaded, Extends};
@@ -89,7 +89,7 @@ fn repair_on(image: &mut [u8], g: Geometry) -> u32
 pub fn repair(image: &mut [u8], stated: Stated) -> u32
     ensures { λ r. ⌜ answered r (now (image .exit)) ≡ afterRepair (kindOf stated) (now (image .entry)) ⌝ }
 {
-    match disc::geometry_of(stated, image.len()) {
+    match geometry::geometry_of(stated, image.len()) {
         Sized::Wrong => refusals::SIZE,
         Sized::Of(g) => repair_on(image, g),
     }

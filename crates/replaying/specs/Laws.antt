@@ -11,17 +11,16 @@ use lib.ListN.{length, take, drop, length-drop}
 use lib.Seq.{getD-drop, drop-drop}
 use lib.Dec.{eqb}
 use borrow.Author.Tests.{ne-eqb, eqb-true}
-use Rattle.format.specs.Lists.{byte}
-use Rattle.format.specs.ListLaws.{and-true}
+use Rattle.lists.specs.Lists.{isSome, byte}
+use Rattle.lists.specs.ListLaws.{and-true}
 use Rattle.format.specs.Refusals.{BAD-LIST, refused, number, _orRefuse_}
 use Rattle.format.specs.Geometry.{Geometry, onDisc, Disc, Write, written}
-use Rattle.format.specs.Effects.{isSome}
 use Rattle.format.specs.Writes.{andThen, ended, held}
 use Rattle.format.specs.WriteLaws.{held-record, held-end}
 use Rattle.format.specs.Calls.{replayOn}
-use Rattle.disc.specs.declared.Geometry as code
-use Rattle.disc.specs.Meaning.{geo, Valid}
-use Rattle.disc.specs.Laws.{number-on}
+use Rattle.geometry.specs.declared.Geometry as code
+use Rattle.geometry.specs.Meaning.{geo, Valid}
+use Rattle.geometry.specs.Laws.{number-on}
 use Rattle.answers.specs.Meaning.{writtenBy}
 use Rattle.replaying.specs.Meaning.{isRecord, writeAt, isEnd, replayed}
 
@@ -39,7 +38,7 @@ module _ (s : List ℕ) (k : ℕ) where
   pub bytes-at : take (k + 259 - (k + 3)) (drop (k + 3) s) ≡ take 256 (drop (k + 3) s)
   bytes-at = let size : k + 259 - (k + 3) ≡ 256 = omega arith in ap (λ (n : ℕ). take n (drop (k + 3) s)) size
 
--- ---- the records of a list, from a place on
+-- ---- the records of a list, from a position on
 
 -- bytes after kind 0
 ended-not : (xs : List ℕ) → 0 < length xs → ended xs ≡ none

@@ -8,8 +8,8 @@ use native.Mathlib.Nat.{lt-of-not-le}
 use mathlib.Core.Option.{none, some}
 use mathlib.Core.List.{List, [], _∷_, _++_, map}
 use lib.ListN.{length}
-use Rattle.format.specs.Lists.{times, lastOr}
-use Rattle.format.specs.ListLaws.{All}
+use Rattle.lists.specs.Lists.{times, lastOr}
+use Rattle.lists.specs.ListLaws.{All}
 use Rattle.format.specs.Refusals.{ok}
 use Rattle.format.specs.Geometry.{Disc, written}
 use Rattle.format.specs.Layout.{Slot, met, freePointer, directory, free, openSlot}
@@ -18,9 +18,10 @@ use Rattle.format.specs.ModuleLaws.{sectors-fit}
 use Rattle.format.specs.Effects.{headOf, needed, saveWrites}
 use Rattle.format.specs.Writes.{listSize}
 use Rattle.format.specs.WriteLaws.{WholeOn}
-use Rattle.disc.specs.Meaning.{geo, meaning, sectorsOf, Inside}
-use Rattle.disc.specs.Laws.{image-full}
-use Rattle.disc.specs.declared.Geometry.{Geometry}
+use Rattle.geometry.specs.Meaning.{geo, sectorsOf}
+use Rattle.disc.specs.Meaning.{meaning, Inside}
+use Rattle.geometry.specs.Laws.{image-full}
+use Rattle.geometry.specs.declared.Geometry.{Geometry}
 use Rattle.disc.specs.declared.Link.{Link}
 use Rattle.soundness.specs.Pointers.{Bounded}
 use Rattle.soundness.specs.ListedWrites.{fileTaken, allTaken, file-long, save-on-disc, save-once}
@@ -29,9 +30,9 @@ use Rattle.answers.specs.declared.Filled.{Filled}
 use Rattle.answers.specs.Meaning.{Lists}
 use Rattle.writes.specs.Meaning.{frontOf, Walks, Copied}
 use Rattle.writes.specs.Laws.{listed-short, listed-done}
-use Rattle.filing.specs.Meaning.{Ready}
-use Rattle.filing.specs.Taking.{linked-head, free-linked}
-use Rattle.filing.specs.Writes.{growth-some, growth-none, enough-is}
+use Rattle.saving_sectors.specs.Meaning.{Ready}
+use Rattle.saving_sectors.specs.Taking.{linked-head, free-linked}
+use Rattle.saving_sectors.specs.Writes.{growth-some, growth-none, enough-is}
 
 -- a module takes few sectors
 pub few-sectors : {g : Geometry} {image : List ℕ} {m : Module} → Ready g image m → sectorsFor (length (m .bytes)) ≤ 300

@@ -4,11 +4,12 @@ use Prim.Native.Nat.{ℕ}
 use mathlib.Core.List.{List}
 use lib.ListN.{length}
 use lib.Dec.{ltb}
+use Rattle.lists.specs.Lists.{isSome}
 use Rattle.format.specs.Refusals.{Try, Refusal, TAKEN, ROOM, ok, _>>_, refuse_if_}
 use Rattle.format.specs.Geometry.{Geometry, Disc, Write}
 use Rattle.format.specs.Layout.{free, find}
 use Rattle.format.specs.Modules.{Module}
-use Rattle.format.specs.Effects.{isSome, needed, saveWrites}
+use Rattle.format.specs.Effects.{needed, saveWrites}
 
 -- the module that a save is handed: its page, start and transfer, and the sheet
 abbrev pub handed : (page start transfer : ℕ) (sheet : List ℕ) → Module

@@ -9,13 +9,14 @@ use mathlib.Core.List.{List}
 use lib.ListN.{length}
 use lib.Dec.{leb, ltb}
 use borrow.Author.Tests.{leb-true, leb-false, le-leb, lt-leb, lt-ltb, le-ltb}
+use Rattle.lists.specs.Lists.{isSome}
 use Rattle.format.specs.Refusals.{NAME, MODULE, UNSOUND, TAKEN, ROOM, refused, ok, _>>=_, _>>_, refuse_if_, _orRefuse_}
 use Rattle.format.specs.Geometry.{Geometry, Disc}
 use Rattle.format.specs.Names.{stored}
 use Rattle.format.specs.Layout.{Slot, free, find}
 use Rattle.format.specs.Check.{sound}
 use Rattle.format.specs.Modules.{Module, allowed, sectorsFor}
-use Rattle.format.specs.Effects.{isSome, growth, needed, saveWrites}
+use Rattle.format.specs.Effects.{growth, needed, saveWrites}
 use Rattle.format.specs.Calls.{saveBeforeOn, saveOn}
 use Rattle.saving.specs.Meaning.{saveAs}
 

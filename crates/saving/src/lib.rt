@@ -1,10 +1,10 @@
 // Save: its refusals in order, then its sector writes and the list of them.
 use answers::Filled;
 use directory::Found;
-use disc::Geometry;
-use disc::SectorNo;
-use disc::Sized;
-use disc::Stated;
+use geometry::Geometry;
+use geometry::SectorNo;
+use geometry::Sized;
+use geometry::Stated;
 use modules::Numbers;
 use names::Name;
 ghost use mathlib.Core.Path.{_≡_};
@@ -20,10 +20,10 @@ ghost use Rattle.format.specs.ModuleLaws.{Allowed};
 ghost use Rattle.format.specs.Refusals.{ok};
 ghost use Rattle.format.specs.Effects.{growth, saveWrites};
 ghost use Rattle.format.specs.Calls.{saveOn, afterSave};
-ghost use Rattle.disc.specs.Meaning.{kindOf, geo, sectorsOf, Image};
+ghost use Rattle.geometry.specs.Meaning.{kindOf, geo, sectorsOf, Image};
 ghost use Rattle.modules.specs.Meaning.{moduleOf};
 ghost use Rattle.directory.specs.Meaning.{Finds};
-ghost use Rattle.filing.specs.Meaning.{Ready};
+ghost use Rattle.saving_sectors.specs.Meaning.{Ready};
 ghost use Rattle.answers.specs.Meaning.{Lists, changeAnswer};
 ghost use Rattle.saving.specs.Meaning.{handed, saveAs};
 
@@ -62,7 +62,7 @@ fn list_in_slot(
         return answers::refused(refusals::SHORT);
     }
     let first = system::system_of(image, g).pointer;
-    filing::save_in_slot(image, g, n, i, name, m, sheet);
+    saving_sectors::save_in_slot(image, g, n, i, name, m, sheet);
     writes::put_saved(image, g, first, count, n, list)
 }
 
@@ -84,7 +84,7 @@ fn list_and_grow(
         return answers::refused(refusals::SHORT);
     }
     let first = system::system_of(image, g).pointer;
-    let grown = filing::save_and_grow(image, g, name, m, sheet);
+    let grown = saving_sectors::save_and_grow(image, g, name, m, sheet);
     let new = grown.new;
     let last = grown.last;
     writes::put_grown(image, g, first, count, new, last, list)
@@ -193,7 +193,7 @@ pub fn save(
     ensures { λ r. ⌜ changeAnswer r (now (image .exit)) (now (list .exit)) ≡ afterSave (kindOf stated) (now (image .entry))
         (now (name .entry)) (handed page start transfer (now (sheet .entry))) (now (list .entry)) ⌝ }
 {
-    match disc::geometry_of(stated, image.len()) {
+    match geometry::geometry_of(stated, image.len()) {
         Sized::Wrong => answers::refused(refusals::SIZE),
         Sized::Of(g) => save_on(image, g, name, page, start, transfer, sheet, list),
     }

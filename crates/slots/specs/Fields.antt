@@ -5,7 +5,7 @@ use Prim.Native.Nat.{ℕ, _+_, _*_, _<_}
 use native.Mathlib.Omega.{arith}
 use lib.ListN.{drop}
 use lib.Seq.{getD-take, getD-drop}
-use Rattle.format.specs.Lists.{byte, wordAt}
+use Rattle.lists.specs.Lists.{byte, wordAt}
 use Rattle.format.specs.Geometry.{Geometry, pointed, Disc, sector}
 use Rattle.format.specs.Layout.{slotStart, slotAt, pairAt}
 

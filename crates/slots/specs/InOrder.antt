@@ -5,8 +5,8 @@ use Prim.Native.Nat.{ℕ, suc, _+_, _-_, _≤_, _<_}
 use native.Mathlib.Omega.{arith}
 use mathlib.Core.Bool.{Bool, true, false, not}
 use mathlib.Core.List.{List, [], _∷_, _++_, map}
-use Rattle.format.specs.Lists.{range, consIf}
-use Rattle.format.specs.ListLaws.{filter-join}
+use Rattle.lists.specs.Lists.{range, consIf}
+use Rattle.lists.specs.ListLaws.{filter-join}
 use Rattle.format.specs.Geometry.{Disc}
 use Rattle.format.specs.Layout.{slotsEach, Slot, freeSlot, inUse, slotAt, slotsAt}
 
@@ -46,3 +46,19 @@ module _ (d : Disc) (n : ℕ) where
     pub slots-end : slotsEach ≤ i → slotsFrom d n i ≡ []
     unfolding slotsFrom
     slots-end h = let e : slotsEach - i ≡ 0 = omega arith in rw e
+
+-- ---- slots in use, from slot i on
+
+module _ (d : Disc) (n i : ℕ) where
+  pub use-next : i < slotsEach → inUse (slotsFrom d n i) ≡ inUse (slotAt d n i ∷ []) ++ inUse (slotsFrom d n (i + 1))
+  use-next h = ap inUse (slots-next d n i h) ∙ use-join (slotAt d n i ∷ []) (slotsFrom d n (i + 1))
+
+  pub use-next-free : i < slotsEach → freeSlot (slotAt d n i) ≡ true → inUse (slotsFrom d n i) ≡ inUse (slotsFrom d n (i + 1))
+  use-next-free h e = use-next h ∙ ap (λ (ss : List Slot). ss ++ inUse (slotsFrom d n (i + 1))) (use-free (slotAt d n i) e)
+
+  pub use-next-used : i < slotsEach → freeSlot (slotAt d n i) ≡ false → inUse (slotsFrom d n i) ≡ slotAt d n i ∷ inUse (slotsFrom d n (i + 1))
+  use-next-used h e = use-next h ∙ ap (λ (ss : List Slot). ss ++ inUse (slotsFrom d n (i + 1))) (use-used (slotAt d n i) e)
+
+  pub use-over : slotsEach ≤ i → inUse (slotsFrom d n i) ≡ []
+  unfolding inUse slotsFrom
+  use-over h = let e : slotsEach - i ≡ 0 = omega arith in rw e

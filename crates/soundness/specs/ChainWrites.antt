@@ -7,8 +7,8 @@ use native.Mathlib.Omega.{arith}
 use native.Mathlib.Decide.{ℕ-discrete}
 use mathlib.Core.List.{List, [], _∷_, map, _++_}
 use lib.ListN.{length, getD, set, take, drop, length-set, length-map}
-use Rattle.format.specs.Lists.{times, lastOr}
-use Rattle.format.specs.ListLaws.{All, done, _also_, head-of, tail-of, all-map, times-none, times-here, times-past}
+use Rattle.lists.specs.Lists.{times, lastOr}
+use Rattle.lists.specs.ListLaws.{All, done, _also_, head-of, tail-of, all-map, times-none, times-here, times-past}
 use Rattle.format.specs.Geometry.{Geometry, sectors, Next, stop, go, Disc, sector, Write, written}
 use Rattle.format.specs.GeometryLaws.{sector-other, sector-same, Full, full-set}
 use Rattle.format.specs.Layout.{linkBytes, linkOf}
@@ -21,7 +21,8 @@ written-join [] vs d = refl
 written-join (w ∷ ws) vs d = written-join ws vs (set d (w .at) (w .bytes))
 
 module _ (G : Geometry) where
-  pub chained-full : (ns : List ℕ) {bs : List (List ℕ)} {d : Disc} → All (λ n. n < sectors G) ns → All (λ b. length b ≡ 254) bs → Full G d → Full G (written (chained G ns bs) d)
+  pub chained-full : (ns : List ℕ) {bs : List (List ℕ)} {d : Disc} → All (λ n. n < sectors G) ns → All (λ b. length b ≡ 254) bs → Full G d
+      → Full G (written (chained G ns bs) d)
   unfolding chained
   chained-full [] b h z = z
   chained-full (n ∷ ns) below done z = z
@@ -37,7 +38,8 @@ module _ (G : Geometry) where
       let ne : n ≢ m = λ e. omega (arith, times-here n m ns e) in
       chained-other ns bs (set d m (linkBytes G (headOf ns) ++ b)) n (omega (arith, times-past n m ns ne)) ∙ sector-other d m n _ ne
 
-  pub chained-chain : Bounded G → (ns : List ℕ) (bs : List (List ℕ)) (d : Disc) → length ns ≡ length bs → All (λ n. n < sectors G) ns → length d ≡ sectors G → ((n : ℕ) → times n ns ≤ 1)
+  pub chained-chain : Bounded G → (ns : List ℕ) (bs : List (List ℕ)) (d : Disc) → length ns ≡ length bs → All (λ n. n < sectors G) ns → length d ≡ sectors G
+      → ((n : ℕ) → times n ns ≤ 1)
       → Chain G (written (chained G ns bs) d) (headOf ns) ns × (map (λ n. body (sector (written (chained G ns bs) d) n)) ns ≡ bs)
   unfolding chained
   chained-chain u [] [] d e below many once = (end refl, refl)

@@ -6,8 +6,8 @@ use native.Mathlib.Omega.{arith}
 use native.Mathlib.Decide.{ℕ-discrete}
 use mathlib.Core.List.{List, [], _∷_, map, _++_, append-assoc}
 use lib.ListN.{length, set, length-set, length-append}
-use Rattle.format.specs.Lists.{times}
-use Rattle.format.specs.ListLaws.{All, done, _also_, all-map, times-here, times-past}
+use Rattle.lists.specs.Lists.{times}
+use Rattle.lists.specs.ListLaws.{All, done, _also_, all-map, times-here, times-past}
 use Rattle.format.specs.Geometry.{Geometry, sectors, trackOf, sectorOf, Disc, sector, Write, written}
 use Rattle.format.specs.GeometryLaws.{sector-same, written-other, Full, sector-full}
 use Rattle.format.specs.Writes.{recordOf, writeList}

@@ -9,15 +9,17 @@ use mathlib.Core.Option.{none, some}
 use mathlib.Core.List.{List, [], _∷_, _++_, map, head?}
 use lib.ListN.{length, drop, length-drop}
 use lib.Seq.{length-take-le}
-use Rattle.format.specs.Lists.{same, filter, sum, times, lastOr}
-use Rattle.format.specs.ListLaws.{all-filter, filter-all, filter-join, filter-yes, head-all, head-none, none-long, all-at, same-true}
+use Rattle.lists.specs.Lists.{same, filter, sum, times, lastOr}
+use Rattle.lists.specs.ListLaws.{all-filter, filter-all, filter-join, filter-yes, head-all, head-none, none-long, all-at, same-true, true-same}
+use Rattle.lists.specs.Counts.{last-of, OneOf}
 use Rattle.format.specs.Geometry.{Geometry, sectors, Disc, sector}
 use Rattle.format.specs.GeometryLaws.{Full, sector-full}
 use Rattle.format.specs.Layout.{slotsEach, slotStart, Slot, freeSlot, nameOf, lengthOf, slotAt, slotsOf, slots, openSlot, find, fileChain}
-use Rattle.soundness.specs.Counts.{last-of, OneOf}
-use Rattle.soundness.specs.NameCounts.{true-same, ofName, called, called-at, called-here}
+use Rattle.lists.specs.Counts.{last-of, OneOf}
+use Rattle.format.specs.NameCounts.{ofName, called, called-at, called-here}
 use Rattle.soundness.specs.Slots.{isUsed, inUse-all, inUse-used, inUse-many, SlotOf, slots-of, slots-many, slotBytes}
-use Rattle.soundness.specs.Filed.{GoodEntry, GoodChain, entriesOf, chainsOf, Counted, Filed, filed-one, directory-is, entries-are}
+use Rattle.format.specs.RuleLaws.{GoodEntry, GoodChain, Counted}
+use Rattle.soundness.specs.Filed.{entriesOf, chainsOf, Filed, filed-one, directory-is, entries-are}
 use Rattle.soundness.specs.Frames.{all-within, all-shorter}
 
 -- ---- the directory sector of a slot
@@ -42,8 +44,10 @@ module _ {G : Geometry} {d : Disc} {dir : List ℕ} (f : Filed G d dir) (s : Slo
   pub slot-length : Full G d → length (s .bytes) ≡ 16
   unfolding slotAt
   slot-length full =
+      let sec : List ℕ = sector d (s .home) in
       ap (λ (t : Slot). length (t .bytes)) (o .is)
-      ∙ length-take-le 16 (drop (slotStart (s .index)) (sector d (s .home))) (omega (arith, length-drop (slotStart (s .index)) (sector d (s .home)), sector-full full (s .home) home-high, o .index-low))
+      ∙ length-take-le 16 (drop (slotStart (s .index)) sec)
+      (omega (arith, length-drop (slotStart (s .index)) sec, sector-full full (s .home) home-high, o .index-low))
 
   pub slot-bytes : s .bytes ≡ slotBytes (sector d (s .home)) (s .index)
   unfolding slotAt
@@ -74,7 +78,8 @@ module _ {G : Geometry} {d : Disc} {dir : List ℕ} (f : Filed G d dir) where
         good = head-all GoodEntry e′ (all-filter _ (f .good-entries));
         file = head-all (GoodChain G d) e′ (all-filter _ (f .good-chains));
         name = same-true _ _ (head-all (λ s. same (nameOf s) nine ≡ true) e′ (filter-all _ (entriesOf d dir)));
-        within = head-all (λ t. (n : ℕ) → times n (fileChain G d t) ≤ times n (chainsOf G d (entriesOf d dir))) e′ (all-filter _ (all-within G d (entriesOf d dir)));
+        within = head-all (λ t. (n : ℕ) → times n (fileChain G d t) ≤ times n (chainsOf G d (entriesOf d dir))) e′
+            (all-filter _ (all-within G d (entriesOf d dir)));
         shorter = head-all (λ t. lengthOf t ≤ sum (map lengthOf (entriesOf d dir))) e′ (all-filter _ (all-shorter (entriesOf d dir)));
       }
 
@@ -130,7 +135,7 @@ module _ {G : Geometry} {d : Disc} {dir nine : List ℕ} (f : Filed G d dir) (s 
   pub file-last : 0 < times (lastOr 0 (fileChain G d s)) (fileChain G d s)
   file-last = last-of (fileChain G d s) file-some
 
-  last-one : OneOf (sectors G) (lastOr 0 (fileChain G d s)) (times (lastOr 0 (fileChain G d s)) dir) (times (lastOr 0 (fileChain G d s)) (chainsOf G d (entriesOf d dir))) 0
+  last-one : let last = lastOr 0 (fileChain G d s) in OneOf (sectors G) last (times last dir) (times last (chainsOf G d (entriesOf d dir))) 0
   last-one = filed-one f (lastOr 0 (fileChain G d s))
 
   pub last-low : 0 < lastOr 0 (fileChain G d s)
@@ -141,4 +146,6 @@ module _ {G : Geometry} {d : Disc} {dir nine : List ℕ} (f : Filed G d dir) (s 
 
   -- the three sectors that a delete writes are apart
   pub home-last : s .home ≢ lastOr 0 (fileChain G d s)
-  home-last e = omega (arith, file-last, w .within (lastOr 0 (fileChain G d s)), home-apart f s (w .slot-of), ap (λ (n : ℕ). times n (chainsOf G d (entriesOf d dir))) e)
+  home-last e =
+      let met = ap (λ (n : ℕ). times n (chainsOf G d (entriesOf d dir))) e in
+      omega (arith, file-last, w .within (lastOr 0 (fileChain G d s)), home-apart f s (w .slot-of), met)

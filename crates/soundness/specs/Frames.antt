@@ -3,21 +3,23 @@
 use mathlib.Core.Path.{_≡_, refl, sym, ap, ap₂, _∙_}
 use Prim.Native.Nat.{ℕ, _+_, _-_, _≤_, _<_}
 use native.Mathlib.Omega.{arith}
-use mathlib.Core.List.{List, [], _∷_, map, _++_}
+use mathlib.Core.List.{List, [], _∷_, map, _++_, map-append}
 use lib.ListN.{length, length-append}
-use Rattle.format.specs.Lists.{sum, times, lastOr}
-use Rattle.format.specs.ListLaws.{All, done, _also_, all-map, map-join, times-join, at-all, once-long, joined-join, sum-join}
+use Rattle.lists.specs.Lists.{sum, times, lastOr}
+use Rattle.lists.specs.ListLaws.{All, done, _also_, all-map, times-join, at-all, once-long, joined-join, sum-join}
 use Rattle.format.specs.Geometry.{Geometry, sectors, go, Disc}
 use Rattle.format.specs.Layout.{Slot, lengthOf, firstOf, lastOf, fileChain}
 use Rattle.format.specs.ChainLaws.{Chain, chain-met, SameLink, chain-frame}
-use Rattle.soundness.specs.Filed.{GoodChain, chain-few, entriesOf, chainsOf}
+use Rattle.format.specs.RuleLaws.{GoodChain, chain-few}
+use Rattle.soundness.specs.Filed.{entriesOf, chainsOf}
 use Rattle.soundness.specs.Laid.{Laid}
 
 -- ---- files whose links stay
 
 module _ {G : Geometry} {d : Disc} (d′ : Disc) where
   -- a file whose links stay, also where its entry changed but for its first and last sector and its length
-  pub file-frame : {s : Slot} (s′ : Slot) → firstOf G s′ ≡ firstOf G s → lastOf G s′ ≡ lastOf G s → lengthOf s′ ≡ lengthOf s → GoodChain G d s → All (SameLink G d d′) (fileChain G d s)
+  pub file-frame : {s : Slot} (s′ : Slot) → firstOf G s′ ≡ firstOf G s → lastOf G s′ ≡ lastOf G s → lengthOf s′ ≡ lengthOf s → GoodChain G d s
+      → All (SameLink G d d′) (fileChain G d s)
       → (fileChain G d′ s′ ≡ fileChain G d s) × GoodChain G d′ s′
   unfolding fileChain
   file-frame {s} s′ e1 e2 e3 f h =
@@ -56,7 +58,7 @@ module _ (G : Geometry) (d : Disc) where
 
 -- the lengths of entries, with one apart
 pub lengths-join : (pre post : List Slot) → sum (map lengthOf (pre ++ post)) ≡ sum (map lengthOf pre) + sum (map lengthOf post)
-lengths-join pre post = ap sum (map-join lengthOf pre post) ∙ sum-join (map lengthOf pre) (map lengthOf post)
+lengths-join pre post = ap sum (map-append lengthOf pre post) ∙ sum-join (map lengthOf pre) (map lengthOf post)
 
 pub lengths-at : (pre post : List Slot) (s : Slot) → sum (map lengthOf (pre ++ s ∷ post)) ≡ sum (map lengthOf pre) + lengthOf s + sum (map lengthOf post)
 lengths-at pre post s = omega (arith, lengths-join pre (s ∷ post))
@@ -71,7 +73,9 @@ chains-sum [] done = refl
 chains-sum {G} {d} (s ∷ ss) (f also fs) = omega (arith, length-append (fileChain G d s) (chainsOf G d ss), f .as-long, chains-sum ss fs)
 
 -- directory, files and free sectors are all but one
-pub laid-sum : {G : Geometry} {d : Disc} {dir frees : List ℕ} → Laid G d dir frees → length dir + sum (map lengthOf (entriesOf d dir)) + length frees ≡ sectors G - 1
+pub laid-sum : {G : Geometry} {d : Disc} {dir frees : List ℕ} → Laid G d dir frees
+    → length dir + sum (map lengthOf (entriesOf d dir)) + length frees ≡ sectors G - 1
 laid-sum {G} {d} {dir} {frees} l =
     let fs : List ℕ = chainsOf G d (entriesOf d dir) in
-    omega (arith, once-long (sectors G) (dir ++ fs ++ frees) (l .once), length-append (dir ++ fs) frees, length-append dir fs, chains-sum (entriesOf d dir) (l .filed .good-chains))
+    let files-long = chains-sum (entriesOf d dir) (l .filed .good-chains) in
+    omega (arith, once-long (sectors G) (dir ++ fs ++ frees) (l .once), length-append (dir ++ fs) frees, length-append dir fs, files-long)

@@ -1,8 +1,4 @@
-pub mod Counts
 pub mod Passing
-pub mod Places
-pub mod Stores
-pub mod NameCounts
 pub mod Slots
 pub mod SlotWrites
 pub mod Filed

@@ -1,18 +1,21 @@
 -- On a sound disc the commands write whole sectors of the disc, each once.
 -- Assumes nothing.
 use mathlib.Core.Path.{_≡_, refl, sym, ap, ap₂, _∙_, subst}
-use Prim.Native.Nat.{ℕ, zero, suc, _+_, _≤_, _<_}
+use Prim.Native.Nat.{ℕ, _+_, _≤_, _<_}
 use native.Mathlib.Omega.{arith}
 use native.Mathlib.Decide.{ℕ-discrete}
 use mathlib.Core.Bool.{true, cond, not}
 use mathlib.Core.Option.{Option, none, some}
-use mathlib.Core.List.{List, [], _∷_, map, _++_, append-assoc}
+use mathlib.Core.List.{List, [], _∷_, map, _++_, append-assoc, map-append}
 use lib.ListN.{length, take}
 use lib.Seq.{length-take-le, take-take}
 use lib.Dec.{eqb}
 use borrow.Author.Tests.{eqb-true}
-use Rattle.format.specs.Lists.{times, lastOr}
-use Rattle.format.specs.ListLaws.{zero-or, All, done, _also_, head-of, tail-of, all-join, at-all, map-join, times-none, times-join, times-here, times-past}
+use Rattle.lists.specs.Lists.{isSome, times, lastOr}
+use Rattle.lists.specs.ListLaws.{zero-or, All, done, _also_, head-of, tail-of, all-join, at-all, times-none}
+use Rattle.lists.specs.ListLaws.{times-join, times-here, times-past, all-take, times-take, last-apart}
+use Rattle.lists.specs.Counts.{last-of, one-at-most}
+pub use Rattle.lists.specs.Counts.{one-at-most}
 use Rattle.format.specs.Refusals.{ok}
 use Rattle.format.specs.Geometry.{Geometry, sectors, Disc, Write}
 use Rattle.format.specs.GeometryLaws.{Full}
@@ -20,43 +23,16 @@ use Rattle.format.specs.Layout.{namePlace, attributePlace, attributeOf, protect
 use Rattle.format.specs.Check.{broken, sound}
 use Rattle.format.specs.Modules.{Module, sectorsFor, bodies}
 use Rattle.format.specs.ModuleLaws.{bodies-many}
-use Rattle.format.specs.Effects.{isSome, slotWrite, chained, systemWrite, entryBytes, entryWrites, growth, needed, saveWrites, deleteWrites}
+use Rattle.format.specs.Effects.{slotWrite, chained, systemWrite, entryBytes, entryWrites, growth, needed, saveWrites, deleteWrites}
 use Rattle.format.specs.Calls.{saveOn, deleteOn, renameOn, protectOn}
 use Rattle.format.specs.CallLaws.{save-ok, delete-ok, rename-ok, protect-ok}
 use Rattle.format.specs.WholeWrites.{Whole, slot-whole, saved-whole, deleted-whole}
 use Rattle.format.specs.WriteLaws.{WholeOn}
-use Rattle.soundness.specs.Counts.{last-of}
 use Rattle.soundness.specs.WriteFacts.{Removable, removable, Savable, savable}
 
 -- the sectors that are written, in order
 abbrev pub places : List Write → List ℕ
 places ws = map (λ w. w .at) ws
-
--- ---- parts of lists
-
-pub all-take : {A : Type 0} {P : A → Type 0} (k : ℕ) {xs : List A} → All P xs → All P (take k xs)
-all-take zero h = done
-all-take (suc k) done = done
-all-take (suc k) (h also hs) = h also all-take k hs
-
-times-take : (n k : ℕ) (xs : List ℕ) → times n (take k xs) ≤ times n xs
-times-take n zero xs = omega (arith, times-none n)
-times-take n (suc k) [] = omega arith
-times-take n (suc k) (x ∷ xs) =
-    elim (ℕ-discrete n x) [
-      | yes w ↦ omega (arith, times-take n k xs, times-here n x (take k xs) w, times-here n x xs w)
-      | no w ↦ omega (arith, times-take n k xs, times-past n x (take k xs) w, times-past n x xs w)
-    ]
-
--- all but the last, and the last
-last-apart : (k x : ℕ) (xs : List ℕ) → length xs ≡ suc k → take k xs ++ lastOr x xs ∷ [] ≡ xs
-last-apart k x [] e = absurd (omega arith)
-last-apart zero x (y ∷ []) e = refl
-last-apart zero x (y ∷ z ∷ xs) e = absurd (omega arith)
-last-apart (suc k) x (y ∷ xs) e = ap (λ (r : List ℕ). y ∷ r) (last-apart k y xs (omega arith))
-
-pub one-at-most : (n a : ℕ) → times n (a ∷ []) ≤ 1
-one-at-most n a = elim (ℕ-discrete n a) [ yes w ↦ omega (arith, times-here n a [] w, times-none n) | no w ↦ omega (arith, times-past n a [] w, times-none n) ]
 
 -- writes of sectors of the disc, if they are whole
 on-disc : (G : Geometry) {ws : List Write} → All (λ n. n < sectors G) (places ws) → All (Whole G) ws → All (WholeOn G) ws
@@ -114,7 +90,7 @@ module _ (G : Geometry) (d : Disc) where
     saved-places o e =
         let file : List ℕ = take k (allTaken m) in
         ap (λ (r : List ℕ). 0 ∷ r)
-        (map-join (λ w. w .at) (chained G file (bodies m)) _
+        (map-append (λ w. w .at) (chained G file (bodies m)) _
         ∙ ap₂ (λ (a b : List ℕ). a ++ b) (chain-places G file (bodies m) (ap length file-first ∙ file-long ∙ sym (bodies-many m)) ∙ file-first)
         (entry-places (entryBytes G nine file) (openSlot G d) ∙ ap (entryPlaces m) e))
 

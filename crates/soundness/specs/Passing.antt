@@ -7,8 +7,8 @@ use native.Mathlib.Omega.{arith}
 use native.Mathlib.Decide.{ℕ-discrete, decLt}
 use native.Mathlib.Nat.{div-lt-iff-lt-mul, mul-comm}
 use mathlib.Core.List.{List, map}
-use Rattle.format.specs.Lists.{range, joined, times, Once}
-use Rattle.format.specs.ListLaws.{All, done, _also_, times-none, times-join, times-here, times-past, once-inside}
+use Rattle.lists.specs.Lists.{range, joined, times, Once}
+use Rattle.lists.specs.ListLaws.{All, done, _also_, times-none, times-join, times-here, times-past, once-inside}
 use Rattle.format.specs.Geometry.{Geometry, sectors, sectorNumber, trackOf, sectorOf}
 use Rattle.format.specs.GeometryLaws.{number-back, track-back, sector-back, sector-range, track-range}
 use Rattle.format.specs.Effects.{passing}

@@ -7,14 +7,14 @@ use native.Mathlib.Nat.{add-zero}
 use mathlib.Core.List.{List, _++_}
 use lib.ListN.{length}
 use lib.Seq.{sets}
-use Rattle.format.specs.Lists.{byte}
-use Rattle.format.specs.ListLaws.{All, done, _also_}
+use Rattle.lists.specs.Lists.{byte}
+use Rattle.lists.specs.ListLaws.{All, done, _also_}
+use Rattle.lists.specs.Stores.{getD-sets-in}
 use Rattle.format.specs.Geometry.{Geometry, sectors, Next, stop, go, pointed, Disc}
 use Rattle.format.specs.GeometryLaws.{pointed-stop, pointed-back, OnDisc}
 use Rattle.format.specs.Layout.{linkPlace, linkAt, pairAt, linkBytes, pairBytes, linkOf}
 use Rattle.format.specs.ChainLaws.{Chain, end, on}
 use Rattle.format.specs.Effects.{withLink, headOf}
-use Rattle.soundness.specs.Stores.{getD-sets-in}
 
 -- a disc with a sector on each track, whose sectors sixteen bits can count
 pub record Bounded (G : Geometry) : Type 0 where

@@ -1,33 +1,31 @@
 -- A disc whose rules 1 to 6 hold and whose used count is wrong: the check reports rule 7.
 -- Assumes nothing.
-use mathlib.Core.Path.{_≡_, sym}
+use mathlib.Core.Path.{_≡_}
 use mathlib.Core.Logic.{_≢_}
 use Prim.Native.Nat.{ℕ, _≤_}
 use mathlib.Core.Bool.{true, false}
 use mathlib.Core.List.{List, _∷_, map, _++_}
 use lib.ListN.{length}
-use borrow.Author.Tests.{eq-eqb, ne-eqb}
-use Rattle.format.specs.Lists.{sum, times}
-use Rattle.format.specs.ListLaws.{true-and, once-distinct}
+use borrow.Author.Tests.{ne-eqb}
+use Rattle.lists.specs.Lists.{sum}
 use Rattle.format.specs.Geometry.{Geometry, sectors, Disc}
 use Rattle.format.specs.Layout.{lengthOf, usedCount, freeCount, freePointer, free, fileSectors}
-use Rattle.format.specs.ChainLaws.{Chain, chain-met, chain-ends}
+use Rattle.format.specs.ChainLaws.{Chain, chain-met}
 use Rattle.format.specs.Check.{rule6, rule7, broken}
 use Rattle.format.specs.CheckLaws.{broken-7}
+use Rattle.format.specs.RuleLaws.{Apart, says-rule6}
 use Rattle.soundness.specs.Filed.{entriesOf, chainsOf, Filed, directory-is, entries-are, filed-rules}
 
 module _ {G : Geometry} {d : Disc} {dir frees : List ℕ} (f : Filed G d dir) (c : Chain G d (freePointer G d) frees) (few : length frees ≤ sectors G)
-    (apart : (n : ℕ) → times n (0 ∷ dir ++ chainsOf G d (entriesOf d dir) ++ frees) ≤ 1) (counted : freeCount d ≡ length frees)
+    (apart : Apart (0 ∷ dir ++ chainsOf G d (entriesOf d dir) ++ frees)) (counted : freeCount d ≡ length frees)
     (miscounted : usedCount d ≢ sum (map lengthOf (entriesOf d dir))) where
   free-is : free G d ≡ frees
   unfolding free
   free-is = chain-met G d (sectors G) c few
 
   holds-6 : rule6 G d ≡ true
-  unfolding rule6 fileSectors
-  holds-6 =
-      rw (directory-is f, entries-are f, free-is)
-      (true-and (true-and (chain-ends G d (sectors G) c few) (once-distinct _ apart)) (eq-eqb _ _ (sym counted)))
+  unfolding fileSectors
+  holds-6 = says-rule6 G d (rw free-is c) (rw (directory-is f, entries-are f, free-is) apart) (rw free-is counted)
 
   broken-used : rule7 G d ≡ false
   unfolding rule7

@@ -7,8 +7,8 @@ use mathlib.Core.Option.{none, some}
 use mathlib.Core.List.{List, [], _∷_, map, _++_}
 use lib.ListN.{length, take, length-map, length-append}
 use lib.Seq.{take-take}
-use Rattle.format.specs.Lists.{lastOr}
-use Rattle.format.specs.ListLaws.{All, head-of, tail-of, all-map, all-left, at-all}
+use Rattle.lists.specs.Lists.{lastOr}
+use Rattle.lists.specs.ListLaws.{All, head-of, tail-of, all-map, all-left, at-all, all-take}
 use Rattle.format.specs.Geometry.{Geometry, sectors, Next, Disc, sector, written}
 use Rattle.format.specs.GeometryLaws.{Full}
 use Rattle.format.specs.Layout.{Slot, linkOf, met, directory, free, openSlot}
@@ -18,7 +18,7 @@ use Rattle.format.specs.ModuleLaws.{bodies-many}
 use Rattle.format.specs.Effects.{headOf, chained, growth, needed, saveWrites}
 use Rattle.soundness.specs.WriteFacts.{Savable}
 use Rattle.soundness.specs.Pointers.{Bounded, head-pointable, made-link}
-use Rattle.soundness.specs.ListedWrites.{all-take, fileTaken, allTaken, taken-long, file-long, saved-places, taken-places, save-on-disc, save-once}
+use Rattle.soundness.specs.ListedWrites.{fileTaken, allTaken, taken-long, file-long, saved-places, taken-places, save-on-disc, save-once}
 use Rattle.soundness.specs.CopiedOut.{still}
 
 -- sectors that stand as a chain was written

@@ -6,16 +6,16 @@ use Prim.Native.Nat.{ℕ, _+_, _≤_, _<_}
 use native.Mathlib.Omega.{arith}
 use native.Mathlib.Decide.{decLe}
 use native.Mathlib.Nat.{add-zero}
-use mathlib.Core.List.{List, [], _∷_, _++_, append-nil}
-use lib.ListN.{length, take, drop, length-drop, drop-of-length-le}
-use lib.Seq.{sets, length-take-le, sets-eq, length-sets}
-use Rattle.format.specs.Lists.{times, byte}
+use mathlib.Core.List.{List, [], _∷_}
+use lib.ListN.{length, take, drop, length-drop}
+use lib.Seq.{sets, length-take-le, length-sets}
+use Rattle.lists.specs.Lists.{times, byte}
+use Rattle.lists.specs.Places.{Place}
+use Rattle.lists.specs.Stores.{getD-sets-off, getD-sets-in, drop-sets, part-sets, part-sets-in, sets-whole}
 use Rattle.format.specs.Geometry.{Geometry, pointed, Disc, sector}
 use Rattle.format.specs.Layout.{inUsePlace, slotsEach, slotStart, Slot, slotAt, slotsAt, slotsOf}
 use Rattle.format.specs.ChainLaws.{SameLink}
 use Rattle.format.specs.Effects.{withSlot}
-use Rattle.soundness.specs.Places.{Place}
-use Rattle.soundness.specs.Stores.{getD-sets-off, getD-sets-in, drop-sets, part-sets, part-sets-in}
 use Rattle.soundness.specs.Slots.{SlotOf, slotBytes, place-at, place-of}
 
 -- ---- the sector's bytes with xs stored from place k of slot i on
@@ -35,12 +35,6 @@ module _ (sec : List ℕ) (i k : ℕ) (xs : List ℕ) (fit : k + length xs ≤ 1
   store-here = part-sets-in xs sec 16 k (slotStart i) fit
 
 -- ---- with the whole slot stored, and n entries in use
-
--- a list stored over the whole of one as long
-sets-all : (xs l : List ℕ) → length xs ≡ length l → sets l 0 xs ≡ xs
-sets-all xs l h =
-    sets-eq xs l 0 (omega arith)
-    ∙ ap (λ (r : List ℕ). xs ++ r) (drop-of-length-le l {i = 0 + length xs} (omega arith)) ∙ append-nil xs
 
 module _ (sec : List ℕ) (i n : ℕ) (xs : List ℕ) (sixteen : length xs ≡ 16) where
   counted-sec : List ℕ
@@ -78,7 +72,7 @@ module _ (sec : List ℕ) (i n : ℕ) (xs : List ℕ) (sixteen : length xs ≡ 1
   pub withSlot-here : slotStart i + 16 ≤ length sec → slotBytes (withSlot sec i n xs) i ≡ xs
   withSlot-here h =
       ap (λ (r : List ℕ). slotBytes r i) as-stored ∙ store-here counted-sec i 0 xs (omega arith)
-      ∙ sets-all xs (slotBytes counted-sec i)
+      ∙ sets-whole (slotBytes counted-sec i) xs
       (sixteen ∙ sym (length-take-le 16 (drop (slotStart i) counted-sec) (omega (arith, length-drop (slotStart i) counted-sec, counted-length))))
 
 -- ---- the slots of the disc
@@ -99,7 +93,8 @@ stored-change d d′ s k xs fit is at-home =
     record {
       link = λ j h. ap (λ (r : List ℕ). byte r j) at-home ∙ store-head (sector d (s .home)) (s .index) k xs fit j (omega arith);
       others = λ j ne. ap (λ (r : List ℕ). slotBytes r j) at-home ∙ store-others (sector d (s .home)) (s .index) k xs fit j ne;
-      here = ap (λ (r : List ℕ). slotBytes r (s .index)) at-home ∙ store-here (sector d (s .home)) (s .index) k xs fit ∙ ap (λ (r : List ℕ). sets r k xs) (sym is);
+      here = ap (λ (r : List ℕ). slotBytes r (s .index)) at-home ∙ store-here (sector d (s .home)) (s .index) k xs fit
+          ∙ ap (λ (r : List ℕ). sets r k xs) (sym is);
     }
 
 pub withSlot-change : (d d′ : Disc) (s : Slot) (n : ℕ) (xs : List ℕ) → length xs ≡ 16 → length (sector d (s .home)) ≡ 256 → s .index < slotsEach
@@ -120,7 +115,9 @@ module _ {d d′ : Disc} {dir : List ℕ} (s : Slot) {xs : List ℕ} (o : SlotOf
   slot-now = ap (withBytes s) (c .here)
 
   pub change-sector : Place (slotsAt d (s .home)) (slotsAt d′ (s .home)) s (withBytes s xs)
-  change-sector = subst₂ (λ (a b : Slot). Place (slotsAt d (s .home)) (slotsAt d′ (s .home)) a b) (sym (o .is)) slot-now (place-at d d′ (s .home) (s .index) (o .index-low) (c .others))
+  change-sector =
+      subst₂ (λ (a b : Slot). Place (slotsAt d (s .home)) (slotsAt d′ (s .home)) a b) (sym (o .is)) slot-now
+      (place-at d d′ (s .home) (s .index) (o .index-low) (c .others))
 
   pub change-slots : times (s .home) dir ≡ 1 → ((m : ℕ) → 0 < times m dir → m ≢ s .home → sector d′ m ≡ sector d m)
       → Place (slotsOf d dir) (slotsOf d′ dir) s (withBytes s xs)

@@ -7,12 +7,13 @@ use native.Mathlib.Omega.{arith}
 use mathlib.Core.Bool.{Bool, not, true}
 use mathlib.Core.List.{List, [], _∷_, _++_}
 use lib.ListN.{length, take, drop, replicate, length-append}
-use Rattle.format.specs.Lists.{filter, range, times}
-use Rattle.format.specs.ListLaws.{All, done, _also_, all-join, map-same, filter-join, filter-yes, filter-no, all-filter, filter-all, at-all, range-all, all-mapped, same-refl}
+use Rattle.lists.specs.Lists.{filter, range, times}
+use Rattle.lists.specs.ListLaws.{All, done, _also_, all-join, map-same, filter-join, filter-yes, filter-no}
+use Rattle.lists.specs.ListLaws.{all-filter, filter-all, at-all, range-all, all-mapped, same-refl}
+use Rattle.lists.specs.Counts.{times-range, filter-parts}
+use Rattle.lists.specs.Places.{Place, place-map, place-joined, place-kept, place-lost, place-gained}
 use Rattle.format.specs.Geometry.{Disc, sector}
 use Rattle.format.specs.Layout.{slotsEach, slotStart, Slot, emptySlot, freeSlot, inUse, slotAt, slotsAt, slotsOf}
-use Rattle.soundness.specs.Counts.{times-range, filter-parts}
-use Rattle.soundness.specs.Places.{Place, place-map, place-joined, place-kept, place-lost, place-gained}
 
 -- ---- slots in use
 
@@ -114,7 +115,9 @@ slots-same d d′ n e = slots-by d d′ n (λ i. ap (λ (r : List ℕ). slotByte
 module _ (d d′ : Disc) (n i : ℕ) (index-low : i < slotsEach) (others : (j : ℕ) → j ≢ i → slotBytes (sector d′ n) j ≡ slotBytes (sector d n) j) where
   pub place-at : Place (slotsAt d n) (slotsAt d′ n) (slotAt d n i) (slotAt d′ n i)
   unfolding slotsAt
-  place-at = place-map (slotAt d n) (slotAt d′ n) (range 0 slotsEach) i (times-range 0 slotsEach i (omega arith) (omega arith)) (λ j k ne. slot-same d d′ n j (others j ne))
+  place-at =
+      place-map (slotAt d n) (slotAt d′ n) (range 0 slotsEach) i (times-range 0 slotsEach i (omega arith) (omega arith))
+      (λ j k ne. slot-same d d′ n j (others j ne))
 
   pub place-of : (dir : List ℕ) → times n dir ≡ 1 → ((m : ℕ) → 0 < times m dir → m ≢ n → sector d′ m ≡ sector d m)
       → Place (slotsOf d dir) (slotsOf d′ dir) (slotAt d n i) (slotAt d′ n i)
@@ -125,7 +128,9 @@ module _ (d d′ : Disc) (n i : ℕ) (index-low : i < slotsEach) (others : (j : 
 
 module _ {d : Disc} {dir : List ℕ} (s : Slot) (o : SlotOf d dir s) where
   own-place : Place (slotsAt d (s .home)) (slotsAt d (s .home)) s s
-  own-place = subst (λ (t : Slot). Place (slotsAt d (s .home)) (slotsAt d (s .home)) t t) (sym (o .is)) (place-at d d (s .home) (s .index) (o .index-low) (λ j ne. refl))
+  own-place =
+      subst (λ (t : Slot). Place (slotsAt d (s .home)) (slotsAt d (s .home)) t t) (sym (o .is))
+      (place-at d d (s .home) (s .index) (o .index-low) (λ j ne. refl))
 
   pub sector-some-used : isUsed s ≡ true → 1 ≤ length (inUse (slotsAt d (s .home)))
   sector-some-used e = let p = place-used own-place e e in omega (arith, ap length (p .was), length-append (p .pre) (s ∷ p .post))

@@ -6,11 +6,11 @@ use native.Mathlib.Omega.{arith}
 use mathlib.Core.List.{List, _++_}
 use lib.ListN.{length}
 use lib.Seq.{sets, length-sets}
-use Rattle.format.specs.Lists.{byte, word, wordAt}
+use Rattle.lists.specs.Lists.{byte, word, wordAt}
+use Rattle.lists.specs.Stores.{getD-sets-off, getD-sets-in}
 use Rattle.format.specs.Geometry.{Geometry, Next, pointed, Disc}
 use Rattle.format.specs.Layout.{freePlace, directoryPlace, freeCountPlace, usedCountPlace, system, pairAt, pairBytes, directoryPointer}
 use Rattle.format.specs.Effects.{systemWrite}
-use Rattle.soundness.specs.Stores.{getD-sets-off, getD-sets-in}
 use Rattle.soundness.specs.Pointers.{Bounded, Pointable, pair-stored}
 
 module _ (G : Geometry) (u : Bounded G) (d : Disc) (full : length (system d) ≡ 256) (p : Next) (l : Pointable G p) (freed used : ℕ) where
@@ -29,14 +29,18 @@ module _ (G : Geometry) (u : Bounded G) (d : Disc) (full : length (system d) ≡
   sys-is = refl
 
   at-counts : (k : ℕ) → k < 4 → byte sys′ (freeCountPlace + k) ≡ byte (word freed ++ word used) k
-  at-counts k h = ap (λ (r : List ℕ). byte r (freeCountPlace + k)) sys-is ∙ getD-sets-in (word freed ++ word used) mid freeCountPlace k 0 h (omega (arith, mid-length))
+  at-counts k h =
+      ap (λ (r : List ℕ). byte r (freeCountPlace + k)) sys-is
+      ∙ getD-sets-in (word freed ++ word used) mid freeCountPlace k 0 h (omega (arith, mid-length))
 
   before : (k : ℕ) → k < freeCountPlace → byte sys′ k ≡ byte mid k
   before k h = ap (λ (r : List ℕ). byte r k) sys-is ∙ getD-sets-off (word freed ++ word used) mid freeCountPlace k 0 (λ a. absurd (omega arith))
 
   pub system-free : pairAt G (systemWrite G d p freed used .bytes) freePlace ≡ p
   unfolding sys′ mid
-  system-free = ap₂ (λ (a b : ℕ). pointed G a b) (before (freePlace + 1) (omega arith)) (before freePlace (omega arith)) ∙ pair-stored G u (system d) freePlace l (omega arith)
+  system-free =
+      ap₂ (λ (a b : ℕ). pointed G a b) (before (freePlace + 1) (omega arith)) (before freePlace (omega arith))
+      ∙ pair-stored G u (system d) freePlace l (omega arith)
 
   -- the two bytes of the free pointer
   pub system-pair : (k : ℕ) → k < 2 → byte (systemWrite G d p freed used .bytes) (freePlace + k) ≡ byte (pairBytes G p) k

@@ -7,10 +7,11 @@ use native.Mathlib.Omega.{arith}
 use mathlib.Core.Option.{some}
 use mathlib.Core.List.{List}
 use lib.ListN.{length}
-use Rattle.format.specs.Lists.{times, lastOr, byte}
+use Rattle.lists.specs.Lists.{times, lastOr, byte}
 use Rattle.format.specs.Geometry.{Geometry, sectors, go, Disc, sector}
 use Rattle.format.specs.GeometryLaws.{pointed-on}
-use Rattle.format.specs.Layout.{inUsePlace, slotsEach, freeCount, usedCount, Slot, lengthOf, freePointer, directory, free, openSlot, find, firstOf, lastOf, fileChain}
+use Rattle.format.specs.Layout.{inUsePlace, slotsEach, freeCount, usedCount, Slot, lengthOf, freePointer}
+use Rattle.format.specs.Layout.{directory, free, openSlot, find, firstOf, lastOf, fileChain}
 use Rattle.format.specs.Check.{broken}
 use Rattle.soundness.specs.Slots.{sector-some-used, sector-some-free}
 use Rattle.soundness.specs.Laid.{laid-one, sound-laid}

@@ -9,16 +9,19 @@ use mathlib.Core.List.{List, [], _∷_, _++_, map}
 use lib.ListN.{take, drop, replicate}
 use lib.Seq.{sets}
 use lib.Dec.{eqb}
-use Rattle.format.specs.Lists.{byte, elem, consIf, range, joined}
+use Rattle.lists.specs.Lists.{byte, elem, consIf, range, joined}
 use Rattle.format.specs.Refusals.{_>>=_, _>>_, refuse_if_, _orRefuse_, number, valueOr}
 use Rattle.format.specs.Geometry.{ten, Geometry, tracked, geometry, go, pointed, placeOf, sectorAt, chunks, reordered, Disc, sector, cut, flat, Write, written}
 use Rattle.format.specs.Names.{letter, letters, beforeDot, afterDot, withExtension, stored, discName, spaced, legalStored}
-use Rattle.format.specs.Layout.{namePlace, usedCount, Slot, emptySlot, freeSlot, inUse, slotAt, slotsAt, slotsOf, linkBytes, freePointer, met, ends, directory, free, slots, entries, openSlot, find, firstOf, fileChain, fileSectors}
+use Rattle.format.specs.Layout.{namePlace, usedCount, Slot, emptySlot, freeSlot, inUse, slotAt, slotsAt, slotsOf, linkBytes, freePointer}
+use Rattle.format.specs.Layout.{met, ends, directory, free, slots, entries, openSlot, find, firstOf, fileChain, fileSectors}
 use Rattle.format.specs.Modules.{allowed, sectorsFor, firstBody, laterBody, laterBodies, bodies}
 use Rattle.format.specs.Check.{goodEntry, differ, rule1, rule2, counted, rule3, rule4, goodChain, rule5, rule6, rule7, rule8, broken}
-use Rattle.format.specs.Effects.{withSlot, withLink, entryWrite, slotWrite, headOf, chained, systemWrite, entryBytes, growth, needed, entryWrites, saveWrites, deleteWrites, passing, version, blankFree, blankSystem, blankDisc}
+use Rattle.format.specs.Effects.{withSlot, withLink, entryWrite, slotWrite, headOf, chained, systemWrite, entryBytes, growth}
+use Rattle.format.specs.Effects.{needed, entryWrites, saveWrites, deleteWrites, passing, version, blankFree, blankSystem, blankDisc}
 use Rattle.format.specs.Writes.{recordOf, writeList}
-use Rattle.format.specs.Calls.{saveBeforeOn, saveOn, deleteOn, renameOn, asked, listed, blank, answerBy, changeAnswerBy, checkAnswerBy, afterCheck, afterSave, afterDelete, afterRename, afterBlank}
+use Rattle.format.specs.Calls.{saveBeforeOn, saveOn, deleteOn, renameOn, asked, listed, blank, answerBy, changeAnswerBy}
+use Rattle.format.specs.Calls.{checkAnswerBy, afterCheck, afterSave, afterDelete, afterRename, afterBlank}
 use Rattle.history.specs.Demand3.{isSound}
 use Rattle.history.specs.Cancels.{fileTook, excepted, Cancelled}
 use Rattle.starred.specs.Examples.{text, blankOf, moduleOf, roomFor}
@@ -64,7 +67,12 @@ record Exceptions : Type 0 where
       ≡ bodyOf 1 ++ bodyOf 2 ++ bodyOf 4 ++ bodyOf 5 ++ bodyOf 6 ++ 1792 ∷ bodyOf 7 ++ bodyOf 8 ++ bodyOf 9
 
 exceptions : Exceptions
-unfolding _>>=_ _>>_ refuse_if_ _orRefuse_ number valueOr ten geometry pointed placeOf sectorAt chunks reordered cut flat letter letters beforeDot afterDot withExtension stored discName spaced legalStored emptySlot freeSlot inUse slotAt slotsAt slotsOf met ends directory free slots entries openSlot find fileChain fileSectors goodEntry differ rule1 rule2 counted rule3 rule4 goodChain rule5 rule6 rule7 rule8 broken allowed sectorsFor firstBody laterBody laterBodies bodies withSlot chained systemWrite entryBytes growth needed entryWrites saveWrites deleteWrites passing version blankFree blankSystem blankDisc recordOf writeList saveBeforeOn saveOn deleteOn asked listed blank answerBy changeAnswerBy checkAnswerBy afterCheck afterSave afterDelete afterBlank fileTook excepted one blankOf worn saved back differing bodyOf
+unfolding _>>=_ _>>_ refuse_if_ _orRefuse_ number valueOr ten geometry pointed placeOf sectorAt chunks reordered cut flat letter letters beforeDot afterDot
+    withExtension stored discName spaced legalStored emptySlot freeSlot inUse slotAt slotsAt slotsOf met ends directory free slots entries openSlot find
+    fileChain fileSectors goodEntry differ rule1 rule2 counted rule3 rule4 goodChain rule5 rule6 rule7 rule8 broken allowed sectorsFor firstBody laterBody
+    laterBodies bodies withSlot chained systemWrite entryBytes growth needed entryWrites saveWrites deleteWrites passing version blankFree blankSystem blankDisc
+    recordOf writeList saveBeforeOn saveOn deleteOn asked listed blank answerBy changeAnswerBy checkAnswerBy afterCheck afterSave afterDelete afterBlank
+    fileTook excepted one blankOf worn saved back differing bodyOf
 exceptions = record { start-sound = refl; took-two = refl; two-sectors = refl; took-all = refl; reaches-the-end = refl }
 
 -- ---- wrong libraries
@@ -131,7 +139,12 @@ record WrongDeletes : Type 0 where
 -- at a place that is not excepted: the free pointer, 0/8's track byte, the first of the thirteen, byte 2, the entry's length, the used count, the link of
 -- 0/10, byte 2 of 0/3
 wrong-deletes : WrongDeletes
-unfolding _>>=_ _>>_ refuse_if_ _orRefuse_ number valueOr ten geometry pointed placeOf sectorAt chunks reordered cut flat letter letters beforeDot afterDot withExtension stored discName spaced legalStored emptySlot freeSlot inUse slotAt slotsAt slotsOf met ends directory free slots entries openSlot find fileChain fileSectors goodEntry differ rule1 rule2 counted rule3 rule4 goodChain rule5 rule6 rule7 rule8 broken allowed sectorsFor firstBody laterBody laterBodies bodies withSlot chained systemWrite entryBytes growth needed entryWrites saveWrites deleteWrites passing version blankFree blankSystem blankDisc recordOf writeList saveBeforeOn saveOn deleteOn asked listed blank answerBy changeAnswerBy checkAnswerBy afterCheck afterSave afterDelete afterBlank fileTook excepted one blankOf worn saved back deletedBy relinked behind endCleared unusedCleared countKept nameCleared usedKept unlinked nextCleared Refused
+unfolding _>>=_ _>>_ refuse_if_ _orRefuse_ number valueOr ten geometry pointed placeOf sectorAt chunks reordered cut flat letter letters beforeDot afterDot
+    withExtension stored discName spaced legalStored emptySlot freeSlot inUse slotAt slotsAt slotsOf met ends directory free slots entries openSlot find
+    fileChain fileSectors goodEntry differ rule1 rule2 counted rule3 rule4 goodChain rule5 rule6 rule7 rule8 broken allowed sectorsFor firstBody laterBody
+    laterBodies bodies withSlot chained systemWrite entryBytes growth needed entryWrites saveWrites deleteWrites passing version blankFree blankSystem blankDisc
+    recordOf writeList saveBeforeOn saveOn deleteOn asked listed blank answerBy changeAnswerBy checkAnswerBy afterCheck afterSave afterDelete afterBlank
+    fileTook excepted one blankOf worn saved back deletedBy relinked behind endCleared unusedCleared countKept nameCleared usedKept unlinked nextCleared Refused
 wrong-deletes =
     record {
       right = refl;
@@ -172,7 +185,12 @@ record Growth : Type 0 where
 
 -- the directory's link leads to 1/5
 growth-rows : Growth
-unfolding _>>=_ _>>_ refuse_if_ _orRefuse_ number valueOr ten geometry pointed placeOf sectorAt chunks reordered cut flat letter letters beforeDot afterDot withExtension stored discName spaced legalStored emptySlot freeSlot inUse slotAt slotsAt slotsOf met ends directory free slots entries openSlot find fileChain fileSectors goodEntry differ rule1 rule2 counted rule3 rule4 goodChain rule5 rule6 rule7 rule8 broken allowed sectorsFor firstBody laterBody laterBodies bodies withSlot chained systemWrite entryBytes growth needed entryWrites saveWrites deleteWrites passing version blankFree blankSystem blankDisc recordOf writeList saveBeforeOn saveOn deleteOn asked listed blank answerBy changeAnswerBy checkAnswerBy afterCheck afterSave afterDelete afterBlank fileTook excepted one blankOf worn two crowded regrown
+unfolding _>>=_ _>>_ refuse_if_ _orRefuse_ number valueOr ten geometry pointed placeOf sectorAt chunks reordered cut flat letter letters beforeDot afterDot
+    withExtension stored discName spaced legalStored emptySlot freeSlot inUse slotAt slotsAt slotsOf met ends directory free slots entries openSlot find
+    fileChain fileSectors goodEntry differ rule1 rule2 counted rule3 rule4 goodChain rule5 rule6 rule7 rule8 broken allowed sectorsFor firstBody laterBody
+    laterBodies bodies withSlot chained systemWrite entryBytes growth needed entryWrites saveWrites deleteWrites passing version blankFree blankSystem blankDisc
+    recordOf writeList saveBeforeOn saveOn deleteOn asked listed blank answerBy changeAnswerBy checkAnswerBy afterCheck afterSave afterDelete afterBlank
+    fileTook excepted one blankOf worn two crowded regrown
 growth-rows = record { crowded-sound = refl; needs-one = refl; not-as-before = λ c. let z : _≡_ {A = ℕ} 5 0 = c .as-before 769 refl in omega arith }
 
 -- ---- wrong renames
@@ -203,7 +221,12 @@ record WrongRenames : Type 0 where
   moved-sound : afterCheck ten (renamedBy moving 0 (text "C") (saved 300)) ≡ isSound
 
 wrong-renames : WrongRenames
-unfolding _>>=_ _>>_ refuse_if_ _orRefuse_ number valueOr ten geometry pointed placeOf sectorAt chunks reordered cut flat letter letters beforeDot afterDot withExtension stored discName spaced legalStored emptySlot freeSlot inUse slotAt slotsAt slotsOf met ends directory free slots entries openSlot find fileChain fileSectors goodEntry differ rule1 rule2 counted rule3 rule4 goodChain rule5 rule6 rule7 rule8 broken allowed sectorsFor firstBody laterBody laterBodies bodies withSlot chained systemWrite entryBytes growth needed entryWrites saveWrites deleteWrites passing version blankFree blankSystem blankDisc recordOf writeList saveBeforeOn saveOn deleteOn renameOn asked listed blank answerBy changeAnswerBy checkAnswerBy afterCheck afterSave afterDelete afterRename afterBlank fileTook excepted one blankOf worn saved renamedBy unpadded moving
+unfolding _>>=_ _>>_ refuse_if_ _orRefuse_ number valueOr ten geometry pointed placeOf sectorAt chunks reordered cut flat letter letters beforeDot afterDot
+    withExtension stored discName spaced legalStored emptySlot freeSlot inUse slotAt slotsAt slotsOf met ends directory free slots entries openSlot find
+    fileChain fileSectors goodEntry differ rule1 rule2 counted rule3 rule4 goodChain rule5 rule6 rule7 rule8 broken allowed sectorsFor firstBody laterBody
+    laterBodies bodies withSlot chained systemWrite entryBytes growth needed entryWrites saveWrites deleteWrites passing version blankFree blankSystem blankDisc
+    recordOf writeList saveBeforeOn saveOn deleteOn renameOn asked listed blank answerBy changeAnswerBy checkAnswerBy afterCheck afterSave afterDelete
+    afterRename afterBlank fileTook excepted one blankOf worn saved renamedBy unpadded moving
 wrong-renames =
     record {
       own-name = refl;

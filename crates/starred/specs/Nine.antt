@@ -7,12 +7,15 @@ use mathlib.Core.Bool.{true, false}
 use mathlib.Core.List.{List, [], _∷_}
 use lib.ListN.{length, take, drop, replicate}
 use Rattle.format.specs.Refusals.{SIZE, refused, ok, _>>=_, _>>_, refuse_if_, _orRefuse_, number, valueOr}
-use Rattle.format.specs.Geometry.{Format, Geometry, Disc, ten, nine, stated, tracked, sectors, geometry, sectorNumber, onDisc, pointed, placeOf, sectorAt, startOf, chunks, reordered, cut, flat, sector}
+use Rattle.format.specs.Geometry.{Format, Geometry, Disc, ten, nine, stated, tracked, sectors, geometry, sectorNumber}
+use Rattle.format.specs.Geometry.{onDisc, pointed, placeOf, sectorAt, startOf, chunks, reordered, cut, flat, sector}
 use Rattle.format.specs.Names.{letter, letters, beforeDot, afterDot, withExtension, stored, discName, spaced, legalStored}
-use Rattle.format.specs.Layout.{freeCount, emptySlot, freeSlot, inUse, slotAt, slotsAt, slotsOf, met, ends, directory, free, slots, entries, openSlot, find, fileChain, fileSectors}
+use Rattle.format.specs.Layout.{freeCount, emptySlot, freeSlot, inUse, slotAt, slotsAt, slotsOf, met, ends}
+use Rattle.format.specs.Layout.{directory, free, slots, entries, openSlot, find, fileChain, fileSectors}
 use Rattle.format.specs.Check.{goodEntry, differ, rule1, rule2, counted, rule3, rule4, goodChain, rule5, rule6, rule7, rule8, broken}
 use Rattle.format.specs.Modules.{allowed, sectorsFor, firstBody, laterBody, laterBodies, bodies}
-use Rattle.format.specs.Effects.{withSlot, chained, systemWrite, entryBytes, growth, needed, entryWrites, saveWrites, passing, version, blankFree, blankSystem, blankDisc}
+use Rattle.format.specs.Effects.{withSlot, chained, systemWrite, entryBytes, growth, needed, entryWrites}
+use Rattle.format.specs.Effects.{saveWrites, passing, version, blankFree, blankSystem, blankDisc}
 use Rattle.format.specs.Writes.{recordOf, writeList}
 use Rattle.format.specs.Calls.{saveBeforeOn, saveOn, asked, listed, blank, answerBy, changeAnswerBy, afterSave, afterBlank}
 use Rattle.starred.specs.Examples.{text, moduleOf, roomFor}
@@ -67,7 +70,11 @@ record NineSectors : Type 0 where
   room-1764 : afterSave early (blankOf 1) (text "A") (moduleOf 0 1764) [] .number ≡ 8
 
 nineSectors : NineSectors
-unfolding stated nine ten _>>=_ _>>_ refuse_if_ _orRefuse_ number valueOr geometry pointed placeOf sectorAt chunks reordered cut flat letter letters beforeDot afterDot withExtension stored discName spaced legalStored emptySlot freeSlot inUse slotAt slotsAt slotsOf met ends directory free slots entries openSlot find fileChain fileSectors goodEntry differ rule1 rule2 counted rule3 rule4 goodChain rule5 rule6 rule7 rule8 broken allowed sectorsFor firstBody laterBody laterBodies bodies withSlot chained systemWrite entryBytes growth needed entryWrites saveWrites passing version blankFree blankSystem blankDisc saveBeforeOn saveOn asked listed recordOf writeList blank answerBy changeAnswerBy afterSave afterBlank early forty blankOf blank40 _/:_
+unfolding stated nine ten _>>=_ _>>_ refuse_if_ _orRefuse_ number valueOr geometry pointed placeOf sectorAt chunks reordered cut flat letter letters beforeDot
+    afterDot withExtension stored discName spaced legalStored emptySlot freeSlot inUse slotAt slotsAt slotsOf met ends directory free slots entries openSlot
+    find fileChain fileSectors goodEntry differ rule1 rule2 counted rule3 rule4 goodChain rule5 rule6 rule7 rule8 broken allowed sectorsFor firstBody laterBody
+    laterBodies bodies withSlot chained systemWrite entryBytes growth needed entryWrites saveWrites passing version blankFree blankSystem blankDisc saveBeforeOn
+    saveOn asked listed recordOf writeList blank answerBy changeAnswerBy afterSave afterBlank early forty blankOf blank40 _/:_
 nineSectors =
     record {
       as-nine = refl;

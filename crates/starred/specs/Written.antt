@@ -4,18 +4,19 @@ use mathlib.Core.Path.{_≡_, refl}
 use Prim.Native.Nat.{ℕ, _+_, _*_}
 use mathlib.Core.List.{List, [], _∷_, _++_, map}
 use lib.ListN.{take, drop, replicate}
+use Rattle.lists.specs.Lists.{range}
 use Rattle.format.specs.Refusals.{_>>=_, _>>_, refuse_if_, _orRefuse_, number, valueOr}
 use Rattle.format.specs.Geometry.{ten, geometry, pointed, placeOf, sectorAt, chunks, reordered, cut, flat, sector}
 use Rattle.format.specs.Names.{letter, letters, beforeDot, afterDot, withExtension, stored, discName, spaced, legalStored}
-use Rattle.format.specs.Layout.{emptySlot, freeSlot, inUse, slotAt, slotsAt, slotsOf, met, ends, directory, free, slots, entries, openSlot, find, fileChain, fileSectors}
+use Rattle.format.specs.Layout.{emptySlot, freeSlot, inUse, slotAt, slotsAt, slotsOf, met, ends}
+use Rattle.format.specs.Layout.{directory, free, slots, entries, openSlot, find, fileChain, fileSectors}
 use Rattle.format.specs.Check.{goodEntry, differ, rule1, rule2, counted, rule3, rule4, goodChain, rule5, rule6, rule7, rule8, broken}
 use Rattle.format.specs.Modules.{allowed, sectorsFor, firstBody, laterBody, laterBodies, bodies}
-use Rattle.format.specs.Effects.{withSlot, chained, systemWrite, entryBytes, growth, needed, entryWrites, saveWrites, deleteWrites, passing, version, blankFree, blankSystem, blankDisc}
-use Rattle.format.specs.Writes.{recordOf, writeList}
-use Rattle.format.specs.Calls.{saveBeforeOn, saveOn, deleteOn, renameOn, protectOn, asked, listed, blank, answerBy, changeAnswerBy, afterSave, afterDelete, afterRename, afterProtect, afterBlank}
-use Rattle.format.specs.Calls.{ChangeAnswer, replayOn, changed, afterReplay}
-use Rattle.format.specs.Writes.{heldAfter}
-use Rattle.format.specs.Lists.{range}
+use Rattle.format.specs.Effects.{withSlot, chained, systemWrite, entryBytes, growth, needed, entryWrites}
+use Rattle.format.specs.Effects.{saveWrites, deleteWrites, passing, version, blankFree, blankSystem, blankDisc}
+use Rattle.format.specs.Writes.{recordOf, writeList, heldAfter}
+use Rattle.format.specs.Calls.{saveBeforeOn, saveOn, deleteOn, renameOn, protectOn, asked, listed, blank, answerBy, changeAnswerBy}
+use Rattle.format.specs.Calls.{afterSave, afterDelete, afterRename, afterProtect, afterBlank, ChangeAnswer, replayOn, changed, afterReplay}
 use Rattle.starred.specs.Examples.{text, moduleOf, blankOf}
 
 -- `THU.PCS` saved on a disc of one track, lent so many bytes of 9 for the list
@@ -58,7 +59,12 @@ record Written : Type 0 where
   twice : take 3 (drop 2304 (afterReplay ten (blankOf 1) (3 ∷ 0 ∷ 10 ∷ replicate 256 6 ++ recordFor 3 0 10 ++ 0 ∷ []) .image)) ≡ (5 ∷ 5 ∷ 5 ∷ [])
 
 written-rows : Written
-unfolding _>>=_ _>>_ refuse_if_ _orRefuse_ number valueOr ten geometry pointed placeOf sectorAt chunks reordered cut flat letter letters beforeDot afterDot withExtension stored discName spaced legalStored emptySlot freeSlot inUse slotAt slotsAt slotsOf met ends directory free slots entries openSlot find fileChain fileSectors goodEntry differ rule1 rule2 counted rule3 rule4 goodChain rule5 rule6 rule7 rule8 broken allowed sectorsFor firstBody laterBody laterBodies bodies withSlot chained systemWrite entryBytes growth needed entryWrites saveWrites deleteWrites passing version blankFree blankSystem blankDisc saveBeforeOn saveOn deleteOn renameOn protectOn asked listed recordOf writeList blank answerBy changeAnswerBy afterSave afterDelete afterRename afterProtect afterBlank heldAfter replayOn changed afterReplay thursday heads recordFor blankOf
+unfolding _>>=_ _>>_ refuse_if_ _orRefuse_ number valueOr ten geometry pointed placeOf sectorAt chunks reordered cut flat letter letters beforeDot afterDot
+    withExtension stored discName spaced legalStored emptySlot freeSlot inUse slotAt slotsAt slotsOf met ends directory free slots entries openSlot find
+    fileChain fileSectors goodEntry differ rule1 rule2 counted rule3 rule4 goodChain rule5 rule6 rule7 rule8 broken allowed sectorsFor firstBody laterBody
+    laterBodies bodies withSlot chained systemWrite entryBytes growth needed entryWrites saveWrites deleteWrites passing version blankFree blankSystem blankDisc
+    saveBeforeOn saveOn deleteOn renameOn protectOn asked listed recordOf writeList blank answerBy changeAnswerBy afterSave afterDelete afterRename afterProtect
+    afterBlank heldAfter replayOn changed afterReplay thursday heads recordFor blankOf
 written-rows =
     record {
       save-heads = refl;

@@ -5,7 +5,7 @@ use Prim.Native.Nat.{ℕ}
 use mathlib.Core.List.{List, [], _∷_, _++_}
 use lib.ListN.{set}
 use lib.Seq.{sets}
-use Rattle.format.specs.Lists.{word}
+use Rattle.lists.specs.Lists.{word}
 use Rattle.format.specs.Geometry.{Geometry, Next, Disc, written}
 use Rattle.format.specs.Layout.{freePlace, freeCountPlace, system, pairBytes}
 use Rattle.format.specs.Effects.{systemWrite}

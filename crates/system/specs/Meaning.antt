@@ -4,8 +4,9 @@ use mathlib.Core.Path.{_≡_}
 use Prim.Native.Nat.{ℕ}
 use mathlib.Core.List.{List}
 use Rattle.format.specs.Layout.{freePointer, freeCount, usedCount}
-use Rattle.disc.specs.Meaning.{geo, meaning, sectorsOf, Inside}
-use Rattle.disc.specs.declared.Geometry.{Geometry}
+use Rattle.geometry.specs.Meaning.{geo, sectorsOf}
+use Rattle.disc.specs.Meaning.{meaning, Inside}
+use Rattle.geometry.specs.declared.Geometry.{Geometry}
 use Rattle.system.specs.declared.System.{System}
 
 pub record SystemOf (g : Geometry) (image : List ℕ) (s : System) : Type 0 where

@@ -1,12 +1,13 @@
 // The calls as C sees them (include/tandos.h). Each is thin: its contract is the equation of document 01's call, and the work is
 // done below. A slice is a pointer and a length.
 use answers::Filled;
-use disc::Stated;
 use fsck::Checked;
+use geometry::Stated;
 use reading::Reading;
 ghost use mathlib.Core.Path.{_≡_};
 ghost use Rattle.format.specs.Geometry.{stated};
-ghost use Rattle.format.specs.Calls.{answered, afterCheck, afterList, afterRead, afterSave, afterDelete, afterRename, afterProtect, afterReplay, afterRepair, afterBlank, viewNumber, viewPart};
+ghost use Rattle.format.specs.Calls.{answered, afterCheck, afterList, afterRead, viewNumber, viewPart};
+ghost use Rattle.format.specs.Calls.{afterSave, afterDelete, afterRename, afterProtect, afterReplay, afterRepair, afterBlank};
 ghost use Rattle.answers.specs.Meaning.{changeAnswer};
 ghost use Rattle.listing.specs.Meaning.{listAnswer};
 ghost use Rattle.reading.specs.Answer.{readAnswer};
@@ -69,7 +70,8 @@ pub extern "C" fn tandos_read(
     name: &[u8],
     buffer: &mut [u8],
 ) -> Reading
-    ensures { λ r. ⌜ readAnswer r (now (buffer .exit)) ≡ afterRead (stated sectors arrangement) (now (image .entry)) (now (name .entry)) (now (buffer .entry)) ⌝ }
+    ensures { λ r. ⌜ readAnswer r (now (buffer .exit)) ≡ afterRead (stated sectors arrangement) (now (image .entry))
+        (now (name .entry)) (now (buffer .entry)) ⌝ }
 {
     let kind = Stated {
         sectors,
@@ -108,14 +110,14 @@ pub extern "C" fn tandos_delete(
     name: &[u8],
     writes: &mut [u8],
 ) -> Filled
-    ensures { λ r. ⌜ changeAnswer r (now (image .exit)) (now (writes .exit)) ≡ afterDelete (stated sectors arrangement) (now (image .entry)) (now (name .entry))
-        (now (writes .entry)) ⌝ }
+    ensures { λ r. ⌜ changeAnswer r (now (image .exit)) (now (writes .exit)) ≡ afterDelete (stated sectors arrangement) (now (image .entry))
+        (now (name .entry)) (now (writes .entry)) ⌝ }
 {
     let kind = Stated {
         sectors,
         arrangement,
     };
-    commands::delete(image, kind, name, writes)
+    deleting::delete(image, kind, name, writes)
 }
 
 #[no_mangle]
@@ -127,14 +129,14 @@ pub extern "C" fn tandos_rename(
     new: &[u8],
     writes: &mut [u8],
 ) -> Filled
-    ensures { λ r. ⌜ changeAnswer r (now (image .exit)) (now (writes .exit)) ≡ afterRename (stated sectors arrangement) (now (image .entry)) (now (old .entry)) (now (new .entry))
-        (now (writes .entry)) ⌝ }
+    ensures { λ r. ⌜ changeAnswer r (now (image .exit)) (now (writes .exit)) ≡ afterRename (stated sectors arrangement) (now (image .entry))
+        (now (old .entry)) (now (new .entry)) (now (writes .entry)) ⌝ }
 {
     let kind = Stated {
         sectors,
         arrangement,
     };
-    commands::rename(image, kind, old, new, writes)
+    renaming::rename(image, kind, old, new, writes)
 }
 
 #[no_mangle]
@@ -146,14 +148,14 @@ pub extern "C" fn tandos_protect(
     on: u32,
     writes: &mut [u8],
 ) -> Filled
-    ensures { λ r. ⌜ changeAnswer r (now (image .exit)) (now (writes .exit)) ≡ afterProtect (stated sectors arrangement) (now (image .entry)) (now (name .entry)) on
-        (now (writes .entry)) ⌝ }
+    ensures { λ r. ⌜ changeAnswer r (now (image .exit)) (now (writes .exit)) ≡ afterProtect (stated sectors arrangement) (now (image .entry))
+        (now (name .entry)) on (now (writes .entry)) ⌝ }
 {
     let kind = Stated {
         sectors,
         arrangement,
     };
-    commands::protect(image, kind, name, on, writes)
+    protecting::protect(image, kind, name, on, writes)
 }
 
 // Writes the sectors of a list of writes.

@@ -14,14 +14,13 @@ use lib.Dec.{eqb, leb}
 use borrow.Author.Tests.{lt-leb, le-leb, leb-true, leb-false, eq-eqb, ne-eqb, eqb-true}
 use Rattle.format.specs.Refusals.{Try, Refusal, BAD-SHEET, numberOf, refused, ok, _>>=_, _>>_, refuse_if_, _orRefuse_, number, valueOr}
 use Rattle.format.specs.RefusalLaws.{refusal-number}
-use Rattle.format.specs.Lists.{byte, wordAt}
-use Rattle.format.specs.ListLaws.{and-true, true-and, all-true, true-all, all-getD, all-set}
-use Rattle.format.specs.Effects.{isSome}
+use Rattle.lists.specs.Lists.{isSome, byte, wordAt}
+use Rattle.lists.specs.ListLaws.{and-true, true-and, all-true, true-all, all-getD, all-set}
 use Rattle.totals.specs.Totals.{Credit, creditOf, isWorker, andThen, inFront, creditsOf, addCredit, addCredits, within, maxTotal, workers}
 use Rattle.totals.specs.Totals.{SheetAnswer, addSheet, afterSheet}
 use Rattle.totals.specs.Meaning.{bodyAt, isRecord, Running, Credits, tallied, tooMany, Adds, Tallies}
 
--- ---- the records of a sheet, from a place on
+-- ---- the records of a sheet, from a position on
 
 record-first : (s : List ℕ) → 5 ≤ length s → creditsOf s ≡ inFront (byte s 0) (bodyAt s 0) (creditsOf (drop 5 s))
 unfolding creditsOf
@@ -139,7 +138,7 @@ over-at [] i h o = absurd (omega arith)
 over-at (t ∷ ts) zero h o = simp (lt-leb t maxTotal o)
 over-at (t ∷ ts) (suc i) h o = simp (over-at ts i (omega arith) o, and-false (leb t maxTotal))
 
--- those before a place, and the one there
+-- those before a position, and the one there
 pub within-one : (ts : List ℕ) (i : ℕ) → i < length ts → within (take i ts) ≡ true → getD ts i 0 ≤ maxTotal → within (take (i + 1) ts) ≡ true
 within-one [] i h w l = absurd (omega arith)
 within-one (t ∷ ts) zero h w l = simp (le-leb t maxTotal l)

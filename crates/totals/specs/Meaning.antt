@@ -7,14 +7,13 @@ use mathlib.Core.Option.{Option, none, some}
 use mathlib.Core.List.{List, [], _∷_}
 use lib.ListN.{length, getD}
 use lib.Dec.{eqb, leb}
-use Rattle.format.specs.Lists.{byte}
-use Rattle.format.specs.Effects.{isSome}
+use Rattle.lists.specs.Lists.{isSome, byte}
 use Rattle.format.specs.Refusals.{Try, Refusal, BAD-SHEET, TOTAL, refused, ok, _>>_, refuse_if_, number}
 use Rattle.totals.specs.Totals.{Credit, creditOf, isWorker, inFront, creditsOf, addCredit, addCredits, within, maxTotal, workers}
 
 -- ---- a record
 
--- the body of the record at place k
+-- the body of the record at position k
 abbrev pub bodyAt : List ℕ → ℕ → List ℕ
 bodyAt s k = byte s (k + 1) ∷ byte s (k + 2) ∷ byte s (k + 3) ∷ byte s (k + 4) ∷ []
 
@@ -43,7 +42,7 @@ tallied (some cs) sums = refuse TOTAL if not (within (addCredits cs sums)) >> ok
 abbrev pub tooMany : Option (List Credit) → Refusal
 tooMany cs = cond (isSome cs) TOTAL BAD-SHEET
 
--- the record at place k was added, or brings a sum above the limit
+-- the record at position k was added, or brings a sum above the limit
 pub record Adds (s : List ℕ) (k : ℕ) (was sums : List ℕ) (r : Bool) : Type 0 where
   pub added : r ≡ true → Running sums × ((cs : Option (List Credit)) → tallied (inFront (byte s k) (bodyAt s k) cs) was ≡ tallied cs sums)
   pub over : r ≡ false → (cs : Option (List Credit)) → tallied (inFront (byte s k) (bodyAt s k) cs) was ≡ refused (tooMany cs)

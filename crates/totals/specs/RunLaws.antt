@@ -10,9 +10,9 @@ use lib.ListN.{length, getD, set}
 use lib.Seq.{getD-set-same, getD-set-other, ext-getD}
 use lib.Dec.{eqb}
 use borrow.Author.Tests.{eqb-true, eqb-false}
-use Rattle.format.specs.Lists.{consIf, filter, joined, sum}
-use Rattle.format.specs.ListLaws.{All, done, _also_, filter-join}
-use Rattle.format.specs.Permutations.{Perm, as-is, skip, swap, next}
+use Rattle.lists.specs.Lists.{consIf, filter, joined, sum}
+use Rattle.lists.specs.ListLaws.{All, done, _also_, filter-join}
+use Rattle.lists.specs.Permutations.{Perm, as-is, skip, swap, next}
 use Rattle.format.specs.Refusals.{_>>=_, _>>_, refuse_if_, _orRefuse_, number, valueOr}
 use Rattle.totals.specs.Totals.{Credit, workers, creditOf, isWorker, andThen, inFront, creditsOf, within, addCredit, addCredits, addSheet, afterSheet}
 use Rattle.totals.specs.Laws.{worker-range, credit-long}
@@ -193,6 +193,6 @@ orders-end-equal ts one other p all-one all-other =
     at : (i : ℕ) → i < length (handedOn ts one) → getD (handedOn ts one) i 0 ≡ getD (handedOn ts other) i 0
     at i h =
         let is : 1 ≤ suc i = omega arith in
-        let place : suc i - 1 ≡ i = omega arith in
-        subst (λ (i : ℕ). getD (handedOn ts one) i 0 ≡ getD (handedOn ts other) i 0) place
+        let same : suc i - 1 ≡ i = omega arith in
+        subst (λ (i : ℕ). getD (handedOn ts one) i 0 ≡ getD (handedOn ts other) i 0) same
         (grown (suc i) one is all-one ∙ omega (arith, among-perm (isOf (suc i)) p) ∙ sym (grown (suc i) other is all-other))

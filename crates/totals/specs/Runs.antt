@@ -6,8 +6,8 @@ use mathlib.Core.Option.{Option·getD}
 use mathlib.Core.List.{List, [], _∷_, map}
 use lib.ListN.{getD}
 use lib.Dec.{eqb}
-use Rattle.format.specs.Lists.{consIf, filter, joined, sum}
-use Rattle.format.specs.Permutations.{Perm}
+use Rattle.lists.specs.Lists.{consIf, filter, joined, sum}
+use Rattle.lists.specs.Permutations.{Perm}
 use Rattle.totals.specs.Totals.{Credit, creditsOf, afterSheet}
 
 -- the totals after one call for each sheet of the list, in its order

@@ -7,7 +7,7 @@ use mathlib.Core.Option.{Option, none, some}
 use mathlib.Core.List.{List, [], _∷_}
 use lib.ListN.{length, getD, set}
 use lib.Dec.{eqb, leb}
-use Rattle.format.specs.Lists.{all, wordAt}
+use Rattle.lists.specs.Lists.{all, wordAt}
 use Rattle.format.specs.Refusals.{Try, Refusal, BAD-SHEET, TOTAL, ok, _>>=_, _>>_, refuse_if_, _orRefuse_, number, valueOr}
 
 -- ---- a sheet

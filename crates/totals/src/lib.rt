@@ -5,8 +5,7 @@ ghost use mathlib.Core.Bool.{true, cond};
 ghost use mathlib.Core.Option.{none, some};
 ghost use mathlib.Core.List.{[]};
 ghost use lib.ListN.{length, drop};
-ghost use Rattle.format.specs.Lists.{byte, wordAt};
-ghost use Rattle.format.specs.Effects.{isSome};
+ghost use Rattle.lists.specs.Lists.{isSome, byte, wordAt};
 ghost use Rattle.format.specs.Refusals.{numberOf};
 ghost use Rattle.totals.specs.Totals.{creditsOf, within, workers, afterSheet};
 ghost use Rattle.totals.specs.Meaning.{bodyAt, isRecord, Running, Credits, tooMany, Adds, Tallies};
@@ -15,7 +14,7 @@ const WORKERS: usize = 500;
 
 const MOST: u32 = 1_000_000_000;
 
-// The sixteen bits at place k.
+// The sixteen bits at position k.
 fn word_at(sheet: &[u8], k: usize) -> u16
     requires { ⌜ k + 1 < length (now sheet) ⌝ }
     ensures { λ r. ⌜ r ≡ wordAt (now (sheet .entry)) k ⌝ }
@@ -23,7 +22,7 @@ fn word_at(sheet: &[u8], k: usize) -> u16
     bytes::word(sheet[k], sheet[k + 1])
 }
 
-// Whether the record at place k is one that a sheet may have.
+// Whether the record at position k is one that a sheet may have.
 fn is_record(sheet: &[u8], k: usize) -> bool
     requires { ⌜ k + 5 ≤ length (now sheet) ⌝ }
     ensures { λ r. ⌜ r ≡ isRecord (byte (now (sheet .entry)) k) (bodyAt (now (sheet .entry)) k) ⌝ }
@@ -42,7 +41,7 @@ fn is_record(sheet: &[u8], k: usize) -> bool
     worker <= WORKERS
 }
 
-// Whether the few bytes from place k on are a sheet's end.
+// Whether the few bytes from position k on are a sheet's end.
 fn is_end(sheet: &[u8], k: usize) -> bool
     requires { ⌜ (k ≤ length (now sheet)) × (length (now sheet) - k < 5) ⌝ }
     ensures { λ r. ⌜ cond r (some []) none ≡ creditsOf (drop k (now (sheet .entry))) ⌝ }
@@ -53,7 +52,7 @@ fn is_end(sheet: &[u8], k: usize) -> bool
     sheet[k] == 0
 }
 
-// Whether a sheet that is good up to place k is good to its end.
+// Whether a sheet that is good up to position k is good to its end.
 fn is_rest(sheet: &[u8], k: usize) -> bool
     requires { ⌜ k ≤ length (now sheet) ⌝ }
     ensures { λ r. ⌜ r ≡ isSome (creditsOf (drop k (now (sheet .entry)))) ⌝ }
@@ -68,7 +67,7 @@ fn is_rest(sheet: &[u8], k: usize) -> bool
     is_end(sheet, at)
 }
 
-// The refusal where a total is too large: a bad sheet comes before that, be it bad from place k on.
+// The refusal where a total is too large: a bad sheet comes before that, be it bad from position k on.
 fn refusal_from(sheet: &[u8], k: usize) -> u32
     requires { ⌜ k ≤ length (now sheet) ⌝ }
     ensures { λ r. ⌜ r ≡ numberOf (tooMany (creditsOf (drop k (now (sheet .entry))))) ⌝ }
@@ -118,7 +117,7 @@ fn credit(sums: &mut [u32], worker: u16, pieces: u16) -> bool
     true
 }
 
-// Adds the record at place k to the sums; false if one would be too large.
+// Adds the record at position k to the sums; false if one would be too large.
 fn add_record(sums: &mut [u32], sheet: &[u8], k: usize) -> bool
     requires { ⌜ Running (now sums) × (k + 5 ≤ length (now sheet)) × (isRecord (byte (now sheet) k) (bodyAt (now sheet) k) ≡ true) ⌝ }
     ensures { λ r. ⌜ Adds (now (sheet .entry)) k (now (sums .entry)) (now (sums .exit)) r ⌝ }

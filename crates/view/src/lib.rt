@@ -1,11 +1,11 @@
 // The sector view: the bytes of one sector after its link, where they lie in the lent image.
 ghost use mathlib.Core.Path.{_≡_};
-ghost use Rattle.disc.specs.Meaning.{kindOf};
+ghost use Rattle.geometry.specs.Meaning.{kindOf};
 ghost use Rattle.format.specs.Calls as calls;
 ghost use Rattle.format.specs.Calls.{viewPart, viewNumber};
 ghost use Rattle.view.specs.Meaning.{viewStart, PartOf};
-use disc::Sized;
-use disc::Stated;
+use geometry::Sized;
+use geometry::Stated;
 
 // Where a view starts in its image, or the number of its refusal.
 enum ViewStart {
@@ -16,12 +16,12 @@ enum ViewStart {
 fn start_of_view(image: &[u8], stated: Stated, track: u32, sector: u32) -> ViewStart
     ensures { λ r. ⌜ r ≡ viewStart (calls.view (kindOf stated) (now (image .entry)) track sector) ⌝ }
 {
-    match disc::geometry_of(stated, image.len()) {
+    match geometry::geometry_of(stated, image.len()) {
         Sized::Wrong => ViewStart::Refused(refusals::SIZE),
         Sized::Of(g) => {
             let t = track as usize;
             let s = sector as usize;
-            if disc::on_disc(g, t, s) {
+            if geometry::on_disc(g, t, s) {
                 let at = disc::sector_at(g, t, s).start;
                 return ViewStart::At((at + 2) as u32);
             }

@@ -8,11 +8,11 @@ use denote.Enum.Declared.{tagOf}
 use mathlib.Core.List.{List, [], _∷_, _++_, map, append-nil, append-assoc}
 use lib.ListN.{length, take, drop}
 use lib.Seq.{sets}
-use Rattle.format.specs.Lists.{times}
+use Rattle.lists.specs.Lists.{times}
 use Rattle.format.specs.Geometry as format
 use Rattle.format.specs.Geometry.{Next, go, Disc, sector, trackOf, sectorOf, Write, written}
 use Rattle.format.specs.GeometryLaws.{sector-cut, sector-full, OnDisc}
-use Rattle.format.specs.ListLaws.{All, done}
+use Rattle.lists.specs.ListLaws.{All, done}
 use Rattle.format.specs.Layout.{linkOf, met}
 use Rattle.format.specs.ChainLaws.{met-none, met-go, met-stop, met-off, met-below}
 use Rattle.format.specs.Refusals.{ok}
@@ -20,15 +20,17 @@ use Rattle.format.specs.Writes.{recordOf, writeList, listSize}
 use Rattle.format.specs.WriteLaws.{WholeOn, list-long}
 use Rattle.soundness.specs.CopiedOut.{standing, recordsAt, copied, copied-join, records-long, copied-out}
 use Rattle.disc.proofs.Step.{the-type}
-use Rattle.disc.specs.Meaning.{form, geo, meaning, sectorsOf, Inside, Image, Lies, led}
-use Rattle.disc.specs.Laws.{each-once, image-full}
-use Rattle.disc.specs.declared.Geometry.{Geometry}
+use Rattle.geometry.specs.Meaning.{form, geo, sectorsOf, Image}
+use Rattle.disc.specs.Meaning.{meaning, Inside, Lies, led}
+use Rattle.geometry.specs.Laws.{each-once, image-full}
+use Rattle.geometry.specs.declared.Geometry.{Geometry}
 use Rattle.disc.specs.declared.Sector.{Sector}
 use Rattle.disc.specs.declared.Link as link
 use Rattle.disc.specs.declared.Link.{Link}
 use Rattle.disc.specs.declared.Step.{Step}
 use Rattle.disc.specs.declared.Step.the-variants.{End, To, Off}
-use Rattle.records.specs.Storing.{Stored, Storing, storing-all, storing-step, storing-end, sets-front}
+use Rattle.records.specs.Storing.{Stored, Storing, storing-all, storing-step, storing-end}
+use Rattle.lists.specs.Stores.{sets-front}
 use Rattle.answers.specs.declared.Filled.{Filled}
 use Rattle.answers.specs.Meaning.{Lists}
 use Rattle.answers.specs.Listed.{short-lists, done-lists}

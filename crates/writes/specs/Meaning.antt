@@ -6,8 +6,9 @@ use mathlib.Core.List.{List, _∷_}
 use lib.ListN.{length}
 use Rattle.format.specs.Layout.{met}
 use Rattle.soundness.specs.CopiedOut.{copied}
-use Rattle.disc.specs.Meaning.{geo, meaning, sectorsOf, Inside}
-use Rattle.disc.specs.declared.Geometry.{Geometry}
+use Rattle.geometry.specs.Meaning.{geo, sectorsOf}
+use Rattle.disc.specs.Meaning.{meaning, Inside}
+use Rattle.geometry.specs.declared.Geometry.{Geometry}
 use Rattle.disc.specs.declared.Link.{Link}
 use Rattle.records.specs.Storing.{Stored}
 use Rattle.answers.specs.declared.Filled.{Filled}

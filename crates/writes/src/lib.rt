@@ -1,11 +1,11 @@
 // The list of what a command wrote, copied out of the new image to the front of a lent buffer: the order in which the command's code
 // writes sectors is its own affair.
 use answers::Filled;
-use disc::Geometry;
 use disc::Link;
 use disc::Sector;
-use disc::SectorNo;
 use disc::Step;
+use geometry::Geometry;
+use geometry::SectorNo;
 ghost use mathlib.Core.Path.{_≡_};
 ghost use mathlib.Core.List.{[], _∷_, _++_};
 ghost use Prim.Native.Nat.{_+_, _*_, _≤_, _<_};
@@ -13,11 +13,10 @@ ghost use lib.ListN.{length};
 ghost use Rattle.format.specs.Layout.{met};
 ghost use Rattle.format.specs.Writes.{recordOf, listSize};
 ghost use Rattle.soundness.specs.CopiedOut.{standing, recordsAt};
-ghost use Rattle.disc.specs.Meaning.{geo, meaning, sectorsOf, Inside, Image, Lies};
+ghost use Rattle.geometry.specs.Meaning.{geo, sectorsOf, Image};
+ghost use Rattle.disc.specs.Meaning.{meaning, Inside, Lies};
 ghost use Rattle.records.specs.Storing.{Stored};
 ghost use Rattle.writes.specs.Meaning.{frontOf, Walks, Copied};
-
-const SYSTEM: SectorNo = SectorNo(0);
 
 // The length of the list of so many writes.
 pub fn list_size(count: usize) -> usize
@@ -60,8 +59,9 @@ fn put_chain(
     at: usize,
 ) -> usize
     requires { ⌜ Image g (now image) × Inside g first × (count ≤ 1000) × (at + 259 * count ≤ length (now buffer)) ⌝ }
-    ensures { λ r. ⌜ Stored (now (buffer .entry)) at
-        (recordsAt (geo g) (sectorsOf g (now (image .entry))) (met (geo g) (sectorsOf g (now (image .entry))) count (meaning first))) (now (buffer .exit)) r ⌝ }
+    ensures { λ r. do
+      let d = sectorsOf g (now (image .entry))
+      ⌜ Stored (now (buffer .entry)) at (recordsAt (geo g) d (met (geo g) d count (meaning first))) (now (buffer .exit)) r ⌝ }
 {
     let mut step = disc::step_to(g, first);
     let mut left = count;
@@ -111,7 +111,7 @@ pub fn put_deleted(
 {
     let one = put_numbered(image, g, home, buffer, 0);
     let two = put_numbered(image, g, last, buffer, one);
-    let three = put_numbered(image, g, SYSTEM, buffer, two);
+    let three = put_numbered(image, g, system::SYSTEM, buffer, two);
     end_list(buffer, three)
 }
 
@@ -121,7 +121,7 @@ fn put_front(image: &[u8], g: Geometry, first: Link, count: usize, buffer: &mut 
     ensures { λ r. ⌜ Stored (now (buffer .entry)) 0
         (recordsAt (geo g) (sectorsOf g (now (image .entry))) (frontOf g (now (image .entry)) first count)) (now (buffer .exit)) r × (r ≡ 259 * (count + 1)) ⌝ }
 {
-    let at = put_numbered(image, g, SYSTEM, buffer, 0);
+    let at = put_numbered(image, g, system::SYSTEM, buffer, 0);
     put_chain(image, g, first, count, buffer, at)
 }
 

@@ -4,9 +4,9 @@ use borrow.Author.Needs.{needs}
 use native.Mathlib.Omega.{arith}
 use Prim.Native.Nat.{ℕ, _+_, _*_}
 use mathlib.Core.Path.{_≡_, refl, ap, _∙_}
-use Rattle.disc.specs.Meaning.{geo}
+use Rattle.geometry.specs.Meaning.{geo}
 use Rattle.passing.specs.Stops.{stop-sector}
-use Rattle.passing.specs.Places.{passed-first, passed-none}
+use Rattle.passing.specs.Positions.{passed-first, passed-none}
 use Rattle.blank.proofs.after_track.Statement.{statement}
 use Rattle.blank.proofs.after_track.Tie as tie
 

@@ -9,8 +9,9 @@ use lib.ListN.{set}
 use Rattle.format.specs.Geometry.{Disc, sector, sectorNumber}
 use Rattle.format.specs.GeometryLaws.{sector-full}
 use Rattle.format.specs.Layout.{linkPlace}
-use Rattle.disc.specs.Meaning.{geo, sectorsOf, storedAt}
-use Rattle.disc.specs.Laws.{image-full}
+use Rattle.geometry.specs.Meaning.{geo, sectorsOf}
+use Rattle.disc.specs.Meaning.{storedAt}
+use Rattle.geometry.specs.Laws.{image-full}
 use Rattle.blank.specs.Zeros.{link-stored}
 use Rattle.blank.proofs.link_to.Statement.{statement}
 use Rattle.blank.proofs.link_to.Tie as tie

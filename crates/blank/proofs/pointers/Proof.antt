@@ -9,11 +9,11 @@ use lib.ListN.{drop}
 use Rattle.format.specs.Geometry.{Next, go}
 use Rattle.format.specs.Layout.{pairBytes}
 use Rattle.format.specs.Effects.{headOf, passing}
-use Rattle.disc.specs.Meaning.{geo}
-use Rattle.disc.specs.Laws.{number-on}
+use Rattle.geometry.specs.Meaning.{geo}
+use Rattle.geometry.specs.Laws.{number-on}
 use Rattle.passing.specs.Meaning.{Passed}
 use Rattle.passing.specs.Stops.{stop-sector}
-use Rattle.passing.specs.Places.{passed-here}
+use Rattle.passing.specs.Positions.{passed-here}
 use Rattle.blank.specs.Links.{directory-on, free-is}
 use Rattle.blank.proofs.pointers.Statement.{statement}
 use Rattle.blank.proofs.pointers.Tie as tie

@@ -8,8 +8,8 @@ use mathlib.Core.Path.{_≡_, refl, sym, ap, subst, _∙_}
 use mathlib.Core.List.{List}
 use lib.ListN.{length}
 use Rattle.format.specs.Geometry.{Write, written}
-use Rattle.disc.specs.Meaning.{geo, sectorsOf}
-use Rattle.disc.specs.Laws.{image-kept}
+use Rattle.geometry.specs.Meaning.{geo, sectorsOf}
+use Rattle.geometry.specs.Laws.{image-kept}
 use Rattle.blank.specs.Links.{linksFrom, links-end, links-whole, Linked, linked-none, linked-more}
 use Rattle.blank.proofs.put_chain.Statement.{statement}
 use Rattle.blank.proofs.put_chain.Tie as tie
@@ -21,6 +21,20 @@ Inv-loop image₀ g stops track₀ image track =
 abbrev μ-loop : tie.MeasureT-loop
 μ-loop image₀ g stops track₀ image track = g .tracks - track
 
+-- ---- places: the function's start; where the first track is written; the head of a turn; the start, from the loop
+
+abbrev at-start : tie.After-put-track Inv-loop μ-loop → tie.Start Inv-loop μ-loop
+at-start c = c .before .before .before .before
+
+abbrev at-first : tie.At-loop Inv-loop μ-loop → tie.After-put-track Inv-loop μ-loop
+at-first c = c .before .before .before
+
+abbrev at-turn : tie.After-put-track-arg2 Inv-loop μ-loop → tie.At-loop Inv-loop μ-loop
+at-turn c = c .before .before .before
+
+abbrev begin : tie.At-loop Inv-loop μ-loop → tie.Start Inv-loop μ-loop
+begin l = at-start (at-first l)
+
 put-track-requires : tie.Need-put-track-requires Inv-loop μ-loop
 put-track-requires c κs =
     let pre = c .before .before .before .pre in
@@ -29,27 +43,17 @@ put-track-requires c κs =
 loop-holds : tie.Need-loop-holds Inv-loop μ-loop
 loop-holds c =
     let first = c .before .before in
-    let start = first .before .before .before .before in
-    (omega arith, start .pre .0 .valid .some-track, refl, linked-none _ _ _ (first .put-track .ensures .bare))
-
--- ---- at the loop
-
-abbrev first-put : (l : tie.At-loop Inv-loop μ-loop) → tie.After-put-track Inv-loop μ-loop
-first-put l = l .before .before .before
-
-abbrev begin : (l : tie.At-loop Inv-loop μ-loop) → tie.Start Inv-loop μ-loop
-begin l = first-put l .before .before .before .before
+    (omega arith, at-start first .pre .0 .valid .some-track, refl, linked-none _ _ _ (first .put-track .ensures .bare))
 
 put-track-requires-2 : tie.Need-put-track-requires-2 Inv-loop μ-loop
 put-track-requires-2 c κs =
-    let tested = c .before in
-    let l = tested .before .before in
+    let l = at-turn c in
     let pre = begin l .pre in
     let more = mul-le-mul-left (geo (begin l .args .g) .perTrack) (l .loop .inv .0) in
     let long : length (l .loop .image) ≡ length (begin l .args .image .now) = search needs in (
       image-kept (pre .0) long,
       pre .1,
-      tested .if1 .taken,
+      c .before .if1 .taken,
       pre .0 .valid .some-on-track,
       omega (arith, more, pre .0 .valid .nine-on-track),
       l .loop .inv .3 .bare,
@@ -64,7 +68,7 @@ loop-less c = search needs
 loop-again : tie.Need-loop-again Inv-loop μ-loop
 loop-again c =
     let put = c .before .before in
-    let l = put .before .before .before .before in
+    let l = at-turn (put .before) in
     let g = begin l .args .g in
     let track : ℕ = l .loop .track in
     let from : geo g .perTrack * track + 0 ≡ geo g .perTrack * track = omega arith in (
@@ -87,7 +91,7 @@ returns c =
     let end = links-end v (geo g .perTrack * l .loop .track) (omega (arith, v .total, ap (λ (q : ℕ). geo g .perTrack * q) all)) in
     let from : geo g .perTrack * 0 + 2 ≡ 2 = omega arith in
     ap (λ (ws : List Write). written ws (sectorsOf g (l .loop .image))) (sym end)
-    ∙ linked-more (first-put l .put-track .ensures) (l .loop .inv .3) .links
+    ∙ linked-more (at-first l .put-track .ensures) (l .loop .inv .3) .links
     ∙ ap (λ (ws : List Write). written ws (sectorsOf g (begin l .args .image .now))) (ap (linksFrom g) from ∙ links-whole v)
 
 pub put-chain-spec : {M : Type 1} → statement M

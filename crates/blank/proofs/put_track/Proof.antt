@@ -7,10 +7,10 @@ use mathlib.Core.Path.{_≡_, refl, _∙_}
 use lib.ListN.{length, getD, replicate}
 use Rattle.format.specs.Geometry.{sector, sectorNumber}
 use Rattle.format.specs.Effects.{body}
-use Rattle.disc.specs.Meaning.{geo, sectorsOf, Valid, Image}
+use Rattle.geometry.specs.Meaning.{geo, sectorsOf, Valid, Image}
 use Rattle.passing.specs.Meaning.{Stop}
 use Rattle.passing.specs.Stops.{stop-sector}
-use Rattle.passing.specs.Places.{next-track, passed-here, here-stop}
+use Rattle.passing.specs.Positions.{next-track, passed-here, here-stop}
 use Rattle.blank.specs.Links.{Linked, linked-none, linked-more, here-bare, linked-here}
 use Rattle.blank.proofs.put_track.Statement.{statement}
 use Rattle.blank.proofs.put_track.Tie as tie
@@ -22,6 +22,17 @@ Inv-loop image₀ g stops track first i₀ here₀ image i here =
 
 abbrev μ-loop : tie.MeasureT-loop
 μ-loop image₀ g stops track first i₀ here₀ image i here = geo g .perTrack - i
+
+-- ---- places: the function's start; where a turn begins; where the loop is left
+
+abbrev begin : tie.At-loop Inv-loop μ-loop → tie.Start Inv-loop μ-loop
+begin l = l .before .before .before .before
+
+abbrev at-turn : tie.After-sector-of-stop Inv-loop μ-loop → tie.Then1 Inv-loop μ-loop
+at-turn c = c .before .before
+
+abbrev at-last : tie.After-after-track Inv-loop μ-loop → tie.Else1 Inv-loop μ-loop
+at-last c = c .before .before
 
 mul-here : tie.Need-mul-here Inv-loop μ-loop
 mul-here c = let pre = c .before .before .pre in omega (arith, pre .3, pre .0 .valid .few-on-track)
@@ -41,10 +52,6 @@ add-next : tie.Need-add-next Inv-loop μ-loop
 add-next c = search needs
 
 -- ---- at the loop
-
-abbrev begin : (l : tie.At-loop Inv-loop μ-loop) → tie.Start Inv-loop μ-loop
-begin l = l .before .before .before .before
-
 valid : (l : tie.At-loop Inv-loop μ-loop) → Valid (begin l .args .g)
 valid l = begin l .pre .0 .valid
 
@@ -78,7 +85,7 @@ sector-of-stop-requires c κs = search needs
 
 link-to-requires : tie.Need-link-to-requires Inv-loop μ-loop
 link-to-requires c κs =
-    let l = c .before .before .before .before .before in
+    let l = at-turn (c .before) .before .before in
     (image-at l, begin l .pre .2, stop-at l, bare-at l)
 
 add-i : tie.Need-add-i Inv-loop μ-loop
@@ -91,8 +98,8 @@ loop-again : tie.Need-loop-again Inv-loop μ-loop
 loop-again c =
     let put = c .before .before in
     let read = put .before .before in
-    let more = read .before .before .if1 .taken in
-    let l = read .before .before .before .before in
+    let more = at-turn read .if1 .taken in
+    let l = at-turn read .before .before in
     let i : ℕ = l .loop .i in
     let pre = begin l .pre in
     let track : ℕ = begin l .args .track in
@@ -113,7 +120,7 @@ after-track-requires c κs = let pre = begin (c .before .before .before) .pre in
 
 link-to-requires-2 : tie.Need-link-to-requires-2 Inv-loop μ-loop
 link-to-requires-2 c κs =
-    let l = c .before .before .before .before in
+    let l = at-last c .before .before in
     (image-at l, begin l .pre .2, stop-at l, bare-at l)
 
 same-length : tie.Need-same-length Inv-loop μ-loop
@@ -122,12 +129,13 @@ same-length c = search needs
 returns : tie.Need-returns Inv-loop μ-loop
 returns c =
     let put = c .before .before in
-    let l = put .before .before .before .before .before in
+    let end = at-last (put .before) in
+    let l = end .before .before in
     let i : ℕ = l .loop .i in
     let g = begin l .args .g in
     let track : ℕ = begin l .args .track in
     let last : geo g .perTrack * (track + 1) ≡ geo g .perTrack * track + i + 1 =
-    omega (arith, next-track (valid l) track, put .before .before .before .if1 .left, l .loop .inv .1) in
+    omega (arith, next-track (valid l) track, end .if1 .left, l .loop .inv .1) in
     linked-more (l .loop .inv .4)
     (linked-here (valid l) track i (begin l .pre .2) (l .loop .inv .1) _ (l .loop .inv .3) _ last _ (put .before .after-track .ensures) _ _
     (l .loop .inv .4 .bare) (put .link-to2 .ensures))

@@ -2,7 +2,7 @@
 -- Assumes nothing.
 use borrow.Author.Needs.{needs}
 use mathlib.Core.Path.{sym, _∙_}
-use Rattle.disc.specs.Meaning.{geo, sectorsOf}
+use Rattle.geometry.specs.Meaning.{geo, sectorsOf}
 use Rattle.directory.specs.Laws.{find-first}
 use Rattle.directory.proofs.find.Statement.{statement}
 use Rattle.directory.proofs.find.Tie as tie

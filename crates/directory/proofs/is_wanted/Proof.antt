@@ -3,9 +3,9 @@
 use borrow.Author.Needs.{needs}
 use mathlib.Core.Path.{ap, sym, _∙_}
 use mathlib.Core.Bool.{Bool, cond}
-use Rattle.format.specs.Lists.{same}
+use Rattle.lists.specs.Lists.{same}
 use Rattle.format.specs.Layout.{Slot, freeSlot, nameOf, slotAt}
-use Rattle.disc.specs.Meaning.{sectorsOf}
+use Rattle.geometry.specs.Meaning.{sectorsOf}
 use Rattle.directory.proofs.is_wanted.Statement.{statement}
 use Rattle.directory.proofs.is_wanted.Tie as tie
 

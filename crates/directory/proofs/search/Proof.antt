@@ -8,10 +8,10 @@ use mathlib.Core.List.{List}
 use lib.ListN.{length}
 use Rattle.format.specs.Geometry.{Disc}
 use Rattle.format.specs.Layout.{slotAt, slotsOf, slots}
-use Rattle.disc.specs.Meaning.{geo, sectorsOf, Inside}
-use Rattle.directory.specs.Meaning.{restOf, Stepped, wantedOf, firstThat, foundOf, Within}
-use Rattle.directory.specs.Laws.{slots-none, slots-are, first-in, first-after}
-use Rattle.directory.specs.declared.Step.{Step}
+use Rattle.geometry.specs.Meaning.{geo, sectorsOf}
+use Rattle.disc.specs.Meaning.{Inside}
+use Rattle.directory.specs.Meaning.{restOf, Met, wantedOf, firstThat, foundOf, Within}
+use Rattle.directory.specs.Laws.{stepped-to, stepped-end, slots-none, slots-are, first-in, first-after}
 use Rattle.directory.specs.declared.Found.{Found}
 use Rattle.directory.proofs.search.Statement.{statement}
 use Rattle.directory.proofs.search.Tie as tie
@@ -23,6 +23,21 @@ Inv-loop image g w rest₀ rest =
 
 abbrev μ-loop : tie.MeasureT-loop
 μ-loop image g w rest₀ rest = length (restOf g image rest)
+
+-- the places that the answers go back to
+abbrev at-told : tie.After-search-sector Inv-loop μ-loop → tie.After-known-told Inv-loop μ-loop
+at-told c = c .before
+
+abbrev at-loop : tie.After-known-told Inv-loop μ-loop → tie.At-loop Inv-loop μ-loop
+at-loop c = c .before .before .before .before
+
+abbrev at-start : tie.At-loop Inv-loop μ-loop → tie.Start Inv-loop μ-loop
+at-start c = c .before .before .before
+
+-- the sector that the walk met
+met : (c : tie.After-known-told Inv-loop μ-loop) → let a = at-start (at-loop c) .args in let next = c .before .next .given .0 in
+    Met (a .g) (a .image .now) (at-loop c .loop .rest) (next .0 .0) (next .1 .0)
+met c = stepped-to _ _ (at-loop c .loop .rest) (c .before .next .given .1) (c .before .before .before .advance .ensures)
 
 start-requires : tie.Need-start-requires Inv-loop μ-loop
 start-requires c κs = search needs
@@ -45,34 +60,34 @@ enum-told c = search needs
 
 returns : tie.Need-returns Inv-loop μ-loop
 returns c =
-    let a = c .before .before .before .before .before .before .args in
-    let loop = c .before .before .before .loop in
+    let advance = c .before .before in
+    let loop = advance .before in
+    let a = at-start loop .args in
     let d : Disc = sectorsOf (a .g) (a .image .now) in
-    let over = subst (λ (s : Step). Stepped (a .g) (a .image .now) (loop .rest) s) (c .enum-told .given .1) (c .before .before .advance .ensures) in
-    record { slot = sym (loop .inv .1 ∙ ap (firstThat (wantedOf (a .w))) (ap (slotsOf d) over ∙ slots-none d)); within = tt }
+    let over = stepped-end _ _ (loop .loop .rest) (c .enum-told .given .1) (advance .advance .ensures) in
+    record { slot = sym (loop .loop .inv .1 ∙ ap (firstThat (wantedOf (a .w))) (ap (slotsOf d) over ∙ slots-none d)); within = tt }
 
 search-sector-requires : tie.Need-search-sector-requires Inv-loop μ-loop
-search-sector-requires c κs =
-    let a = c .before .before .before .before .before .before .before .args in
-    let met = subst (λ (s : Step). Stepped (a .g) (a .image .now) (c .before .before .before .before .loop .rest) s) (c .before .next .given .1) (c .before .before .before .advance .ensures) in
-    (c .before .before .before .before .before .before .before .pre, met .on-disc)
+search-sector-requires c κs = (at-start (at-loop c) .pre, met c .on-disc)
 
 enum-known-here : tie.Need-enum-known-here Inv-loop μ-loop
 enum-known-here c = search needs
 
 returns-2 : tie.Need-returns-2 Inv-loop μ-loop
 returns-2 c =
-    let a = c .before .before .before .before .before .before .before .before .before .before .before .args in
-    let loop = c .before .before .before .before .before .before .before .before .loop in
-    let next = c .before .before .before .before .before .next .given in
+    let searched = c .before .before .before in
+    let told = at-told searched in
+    let loop = at-loop told in
+    let a = at-start loop .args in
+    let next = told .before .next .given .0 in
     let here = c .before .here .given in
     let d : Disc = sectorsOf (a .g) (a .image .now) in
-    let met = subst (λ (s : Step). Stepped (a .g) (a .image .now) (loop .rest) s) (next .1) (c .before .before .before .before .before .before .before .advance .ensures) in
-    let found = c .before .before .before .search-sector .ensures in
+    let found = searched .search-sector .ensures in
     let s = slotAt d (here .0 .0 .0) (here .0 .1 .0) in
-    let in-sector = first-in (wantedOf (a .w)) d (next .0 .0 .0) (restOf (a .g) (a .image .now) (next .0 .1 .0)) s (sym (found .slot) ∙ ap (foundOf d) (here .1)) in
+    let is = sym (found .slot) ∙ ap (foundOf d) (here .1) in
+    let in-sector = first-in (wantedOf (a .w)) d (next .0 .0) (restOf (a .g) (a .image .now) (next .1 .0)) s is in
     record {
-      slot = sym (loop .inv .1 ∙ ap (λ (ns : List ℕ). firstThat (wantedOf (a .w)) (slotsOf d ns)) (met .next) ∙ in-sector);
+      slot = sym (loop .loop .inv .1 ∙ ap (λ (ns : List ℕ). firstThat (wantedOf (a .w)) (slotsOf d ns)) (met told .next) ∙ in-sector);
       within = subst (λ (r : Found). Within (a .g) r) (here .1) (found .within);
     }
 
@@ -80,21 +95,19 @@ enum-told-2 : tie.Need-enum-told-2 Inv-loop μ-loop
 enum-told-2 c = search needs
 
 loop-less : tie.Need-loop-less Inv-loop μ-loop
-loop-less c =
-    let a = c .before .before .before .before .before .before .before .before .before .before .args in
-    let met = subst (λ (s : Step). Stepped (a .g) (a .image .now) (c .before .before .before .before .before .before .before .loop .rest) s) (c .before .before .before .before .next .given .1) (c .before .before .before .before .before .before .advance .ensures) in
-    omega (arith, ap length (met .next))
+loop-less c = omega (arith, ap length (met (at-told (c .before .before)) .next))
 
 loop-again : tie.Need-loop-again Inv-loop μ-loop
 loop-again c =
-    let a = c .before .before .before .before .before .before .before .before .before .before .args in
-    let loop = c .before .before .before .before .before .before .before .loop in
-    let next = c .before .before .before .before .next .given in
+    let searched = c .before .before in
+    let told = at-told searched in
+    let loop = at-loop told in
+    let a = at-start loop .args in
+    let next = told .before .next .given .0 in
     let d : Disc = sectorsOf (a .g) (a .image .now) in
-    let met = subst (λ (s : Step). Stepped (a .g) (a .image .now) (loop .rest) s) (next .1) (c .before .before .before .before .before .before .advance .ensures) in
-    let not-here = sym (c .before .before .search-sector .ensures .slot) ∙ ap (foundOf d) (c .enum-told2 .given .1) in
-    let after = first-after (wantedOf (a .w)) d (next .0 .0 .0) (restOf (a .g) (a .image .now) (next .0 .1 .0)) not-here in
-    (met .inside, loop .inv .1 ∙ ap (λ (ns : List ℕ). firstThat (wantedOf (a .w)) (slotsOf d ns)) (met .next) ∙ after)
+    let not-here = sym (searched .search-sector .ensures .slot) ∙ ap (foundOf d) (c .enum-told2 .given .1) in
+    let after = first-after (wantedOf (a .w)) d (next .0 .0) (restOf (a .g) (a .image .now) (next .1 .0)) not-here in
+    (met told .inside, loop .loop .inv .1 ∙ ap (λ (ns : List ℕ). firstThat (wantedOf (a .w)) (slotsOf d ns)) (met told .next) ∙ after)
 
 pub search-spec : {M : Type 1} → statement M
 search-spec =

@@ -6,7 +6,7 @@ use Prim.Native.Nat.{_-_, _≤_}
 use mathlib.Core.Path.{_≡_, ap, sym, _∙_}
 use Rattle.format.specs.Geometry.{Disc}
 use Rattle.format.specs.Layout.{slotsEach, slotsAt}
-use Rattle.disc.specs.Meaning.{sectorsOf}
+use Rattle.geometry.specs.Meaning.{sectorsOf}
 use Rattle.directory.specs.Meaning.{wantedOf, firstThat}
 use Rattle.slots.specs.InOrder.{slotsFrom, slots-all, slots-end}
 use Rattle.directory.specs.Laws.{first-here, first-next}

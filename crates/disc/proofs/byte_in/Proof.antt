@@ -1,7 +1,8 @@
 -- `disc::byte_in` meets its contract.
 -- Assumes nothing.
 use borrow.Author.Needs.{needs}
-use Rattle.disc.specs.Laws.{lies-starts, byte-at}
+use Rattle.geometry.specs.Laws.{byte-at}
+use Rattle.disc.specs.Laws.{lies-starts}
 use Rattle.disc.proofs.byte_in.Statement.{statement}
 use Rattle.disc.proofs.byte_in.Tie as tie
 

@@ -6,7 +6,7 @@ use native.Mathlib.Omega.{arith}
 use lib.ListN.{getD}
 use borrow.Author.Needs.{needs}
 use Rattle.format.specs.GeometryLaws.{byte-cut}
-use Rattle.disc.specs.Laws.{each-once}
+use Rattle.geometry.specs.Laws.{each-once}
 use Rattle.disc.proofs.byte_of.Statement.{statement}
 use Rattle.disc.proofs.byte_of.Tie as tie
 

@@ -3,7 +3,7 @@
 use mathlib.Core.Path.{ap₂, _∙_}
 use borrow.Author.Needs.{needs}
 use Rattle.format.specs.Geometry.{pointed}
-use Rattle.disc.specs.Laws.{link-at}
+use Rattle.geometry.specs.Laws.{link-at}
 use Rattle.disc.proofs.link_of.Statement.{statement}
 use Rattle.disc.proofs.link_of.Tie as tie
 

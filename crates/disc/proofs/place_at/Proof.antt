@@ -3,7 +3,7 @@
 use native.Mathlib.Omega.{arith}
 use borrow.Author.Needs.{needs}
 use Rattle.format.specs.GeometryLaws.{track-range, sector-range}
-use Rattle.disc.specs.Meaning.{geo}
+use Rattle.geometry.specs.Meaning.{geo}
 use Rattle.disc.proofs.place_at.Statement.{statement}
 use Rattle.disc.proofs.place_at.Tie as tie
 

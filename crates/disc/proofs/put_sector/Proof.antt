@@ -6,8 +6,9 @@ use lib.ListN.{length}
 use borrow.Author.Needs.{needs}
 use Rattle.format.specs.Geometry.{sector}
 use Rattle.format.specs.GeometryLaws.{cut-full, sector-full}
-use Rattle.disc.specs.Meaning.{form, geo, sectorsOf}
-use Rattle.disc.specs.Laws.{each-once, sets-whole}
+use Rattle.geometry.specs.Meaning.{form, geo, sectorsOf}
+use Rattle.geometry.specs.Laws.{each-once}
+use Rattle.lists.specs.Stores.{sets-whole}
 use Rattle.disc.proofs.put_sector.Statement.{statement}
 use Rattle.disc.proofs.put_sector.Tie as tie
 

@@ -6,8 +6,9 @@ use native.Mathlib.Omega.{arith}
 use borrow.Author.Needs.{needs}
 use Rattle.format.specs.Geometry.{sectorNumber}
 use Rattle.format.specs.GeometryLaws.{on-disc-is}
-use Rattle.disc.specs.Meaning.{geo, placeIn, Starts}
-use Rattle.disc.specs.Laws.{number-on, starts-at, lies}
+use Rattle.geometry.specs.Meaning.{geo, placeIn, Starts}
+use Rattle.geometry.specs.Laws.{number-on, starts-at}
+use Rattle.disc.specs.Laws.{lies}
 use Rattle.disc.proofs.sector_at.Statement.{statement}
 use Rattle.disc.proofs.sector_at.Tie as tie
 
@@ -44,7 +45,7 @@ returns c =
     let is = c .before .number-of .ensures in
     let n : ℕ = sectorNumber (geo (a .g)) (a .track) (a .sector) in
     let at = subst (λ (p : ℕ). Starts (a .g) n (256 * (a .g .«per_track» * a .track) + p)) (sym (c .offset-of .ensures .0)) (placed start) in
-    (is, lies v _ (omega (arith, is, number-on v (a .track) (a .sector) (start .pre .1))) (rw is at))
+    (is, lies _ (omega (arith, is, number-on v (a .track) (a .sector) (start .pre .1))) (rw is at))
 
 pub sector-at-spec : {M : Type 1} → statement M
 sector-at-spec = tie.close (tie.spec number-of-requires offset-of-requires mul-t7 mul-t8 add-t9 returns)

@@ -3,7 +3,8 @@
 use mathlib.Core.Path.{ap₂, _∙_}
 use borrow.Author.Needs.{needs}
 use Rattle.format.specs.Geometry.{pointed}
-use Rattle.disc.specs.Laws.{lies-starts, link-at}
+use Rattle.geometry.specs.Laws.{link-at}
+use Rattle.disc.specs.Laws.{lies-starts}
 use Rattle.disc.proofs.step_from.Statement.{statement}
 use Rattle.disc.proofs.step_from.Tie as tie
 

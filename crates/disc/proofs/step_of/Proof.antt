@@ -3,7 +3,7 @@
 use mathlib.Core.Path.{ap₂, _∙_}
 use borrow.Author.Needs.{needs}
 use Rattle.format.specs.Geometry.{pointed}
-use Rattle.disc.specs.Laws.{bytes-at}
+use Rattle.geometry.specs.Laws.{bytes-at}
 use Rattle.disc.proofs.step_of.Statement.{statement}
 use Rattle.disc.proofs.step_of.Tie as tie
 

@@ -3,7 +3,7 @@
 use mathlib.Core.Path.{ap₂, _∙_}
 use Prim.Native.Nat.{ℕ, _+_, _*_}
 use borrow.Author.Needs.{needs}
-use Rattle.disc.specs.Laws.{bytes-at}
+use Rattle.geometry.specs.Laws.{bytes-at}
 use Rattle.disc.proofs.word_of.Statement.{statement}
 use Rattle.disc.proofs.word_of.Tie as tie
 

@@ -5,8 +5,8 @@ use Prim.Native.Nat.{_-_, _≤_}
 use mathlib.Core.Path.{_≡_, refl, ap}
 use mathlib.Core.Bool.{not}
 use borrow.Author.Tests.{eq-eqb, ne-eqb}
-use Rattle.format.specs.Lists.{all, range}
-use Rattle.fsck.specs.Marks.{clear}
+use Rattle.lists.specs.Lists.{all, range}
+use Rattle.fsck_chains.specs.Marks.{clear}
 use Rattle.fsck.specs.Free.{range-over, range-not, range-next}
 use Rattle.fsck.proofs.all_marked.Statement.{statement}
 use Rattle.fsck.proofs.all_marked.Tie as tie

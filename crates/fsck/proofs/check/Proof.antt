@@ -3,7 +3,7 @@
 use native.Mathlib.Omega.{arith}
 use mathlib.Core.Path.{sym, _∙_}
 use borrow.Author.Needs.{needs}
-use Rattle.disc.specs.Laws.{opened, geometry-wrong}
+use Rattle.geometry.specs.Laws.{opened, geometry-wrong}
 use Rattle.fsck.specs.Answer.{after-size, after-rule}
 use Rattle.fsck.proofs.check.Statement.{statement}
 use Rattle.fsck.proofs.check.Tie as tie

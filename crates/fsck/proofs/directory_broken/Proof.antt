@@ -9,7 +9,8 @@ use Rattle.format.specs.Geometry.{Disc}
 use Rattle.format.specs.Layout.{directoryPointer}
 use Rattle.format.specs.Check.{rule1}
 use Rattle.format.specs.CheckLaws.{broken-1, broken-2, broken-3, broken-4}
-use Rattle.disc.specs.Meaning.{geo, sectorsOf, Valid, led}
+use Rattle.geometry.specs.Meaning.{geo, sectorsOf, Valid}
+use Rattle.disc.specs.Meaning.{led}
 use Rattle.fsck.specs.Rules.{checked-broken, checked-sound, rule1-is, rule2-broken, rule2-ended}
 use Rattle.fsck.proofs.directory_broken.Statement.{statement}
 use Rattle.fsck.proofs.directory_broken.Tie as tie
@@ -31,13 +32,13 @@ disc c = sectorsOf (at-start (elsewhere c) .args .g) (at-start (elsewhere c) .ar
 holds-1 : (c : tie.After-step-to) → rule1 (geo (at-start (elsewhere c) .args .g)) (disc c) ≡ true
 holds-1 c =
     let after = c .before in
-    rule1-is (valid c) _ (after .before .before .directory-start .ensures .0) (after .before .is-elsewhere .ensures) ∙ not-false _ (after .if1 .left)
+    rule1-is (valid c) _ (after .before .before .directory-pointer .ensures .0) (after .before .is-elsewhere .ensures) ∙ not-false _ (after .if1 .left)
 
 pointer : (c : tie.After-step-to) → led (c .step-to .result) ≡ directoryPointer (geo (at-start (elsewhere c) .args .g)) (disc c)
-pointer c = c .step-to .ensures .0 ∙ c .before .before .before .directory-start .ensures .0
+pointer c = c .step-to .ensures .0 ∙ c .before .before .before .directory-pointer .ensures .0
 
-directory-start-requires : tie.Need-directory-start-requires
-directory-start-requires c κs = search needs
+directory-pointer-requires : tie.Need-directory-pointer-requires
+directory-pointer-requires c κs = search needs
 
 is-elsewhere-requires : tie.Need-is-elsewhere-requires
 is-elsewhere-requires c κs = search needs
@@ -45,7 +46,7 @@ is-elsewhere-requires c κs = search needs
 returns : tie.Need-returns
 returns c =
     let v = c .before .before .before .before .pre .0 .valid in
-    let r1 = rule1-is v _ (c .before .before .directory-start .ensures .0) (c .before .is-elsewhere .ensures) ∙ not-true _ (c .if1 .taken) in
+    let r1 = rule1-is v _ (c .before .before .directory-pointer .ensures .0) (c .before .is-elsewhere .ensures) ∙ not-true _ (c .if1 .taken) in
     checked-broken 1 (omega arith) (omega arith) (broken-1 _ _ r1)
 
 step-to-requires : tie.Need-step-to-requires
@@ -108,7 +109,7 @@ pub directory-broken-spec : {M : Type 1} → statement M
 directory-broken-spec =
     tie.close
     (tie.spec
-    directory-start-requires
+    directory-pointer-requires
     is-elsewhere-requires
     returns
     step-to-requires

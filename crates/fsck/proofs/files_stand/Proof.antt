@@ -6,7 +6,7 @@ use mathlib.Core.Path.{ap}
 use mathlib.Core.List.{List}
 use lib.ListN.{set}
 use borrow.Author.Needs.{needs}
-use Rattle.fsck.specs.Marks.{marked}
+use Rattle.fsck_chains.specs.Marks.{marked}
 use Rattle.fsck.specs.Rules.{marksOf, rule5-bad, rule5-good}
 use Rattle.fsck.proofs.files_stand.Statement.{statement}
 use Rattle.fsck.proofs.files_stand.Tie as tie

@@ -7,7 +7,7 @@ use borrow.Author.Tests.{not-true, not-false, eq-eqb, ne-eqb}
 use Rattle.format.specs.Geometry.{Geometry, Disc}
 use Rattle.format.specs.Check.{rule6, rule7, rule8}
 use Rattle.format.specs.CheckLaws.{broken-6, broken-7, broken-8, rules-sound}
-use Rattle.disc.specs.Meaning.{geo, sectorsOf}
+use Rattle.geometry.specs.Meaning.{geo, sectorsOf}
 use Rattle.fsck.specs.Rules.{rule6-is, rule6-marks, rule7-is, rule8-is}
 use Rattle.fsck.proofs.free_broken.Statement.{statement}
 use Rattle.fsck.proofs.free_broken.Tie as tie
@@ -17,7 +17,7 @@ use Rattle.fsck.proofs.free_broken.Tie as tie
 abbrev at-start : tie.After-free-good → tie.Start
 at-start c = c .before .before .before
 
-abbrev at-walk : tie.After-word-of → tie.After-free-good
+abbrev at-walk : tie.After-used-count → tie.After-free-good
 at-walk c = c .before .before
 
 abbrev at-counted : tie.After-all-marked → tie.Else2
@@ -42,7 +42,7 @@ holds-6 c = is-6 (c .before) ∙ not-false _ (c .if1 .left)
 holds-7 : (c : tie.Else2) → rule7 (G (at-walk (c .before))) (disc (at-walk (c .before))) ≡ true
 holds-7 c =
     let start = at-start (at-walk (c .before)) in
-    rule7-is (start .pre .0 .valid) _ _ _ (c .before .word-of .ensures) (start .pre .1 .used) ∙ eq-eqb _ _ (c .if2 .left)
+    rule7-is (start .pre .0 .valid) _ _ _ (c .before .used-count .ensures) (start .pre .1 .used) ∙ eq-eqb _ _ (c .if2 .left)
 
 is-8 : (c : tie.After-all-marked) → rule8 (G (at-walk (at-counted c .before))) (disc (at-walk (at-counted c .before))) ≡ c .all-marked .result
 is-8 c =
@@ -58,8 +58,8 @@ free-good-requires c κs = search needs
 returns : tie.Need-returns
 returns c = sym (broken-6 _ _ (at-start (c .before) .pre .1 .to5) (is-6 (c .before) ∙ not-true _ (c .if1 .taken)))
 
-word-of-requires : tie.Need-word-of-requires
-word-of-requires c κs = search needs
+used-count-requires : tie.Need-used-count-requires
+used-count-requires c κs = search needs
 
 cast-if2 : tie.Need-cast-if2
 cast-if2 c = search needs
@@ -67,7 +67,7 @@ cast-if2 c = search needs
 returns-2 : tie.Need-returns-2
 returns-2 c =
     let start = at-start (at-walk (c .before)) in
-    let r7 = rule7-is (start .pre .0 .valid) _ _ _ (c .before .word-of .ensures) (start .pre .1 .used) ∙ ne-eqb _ _ (c .if2 .taken) in
+    let r7 = rule7-is (start .pre .0 .valid) _ _ _ (c .before .used-count .ensures) (start .pre .1 .used) ∙ ne-eqb _ _ (c .if2 .taken) in
     sym (broken-7 _ _ (start .pre .1 .to5) (holds-6 (c .before .before)) r7)
 
 all-marked-requires : tie.Need-all-marked-requires
@@ -93,7 +93,7 @@ free-broken-spec =
     (tie.spec
     free-good-requires
     returns
-    word-of-requires
+    used-count-requires
     cast-if2
     returns-2
     all-marked-requires

@@ -5,11 +5,11 @@ use Rattle.fsck.specs.Free.{free-broken, free-ended}
 use Rattle.fsck.proofs.free_good.Statement.{statement}
 use Rattle.fsck.proofs.free_good.Tie as tie
 
-step-of-requires : tie.Need-step-of-requires
-step-of-requires c κs = search needs
+free-step-requires : tie.Need-free-step-requires
+free-step-requires c κs = search needs
 
 follow-requires : tie.Need-follow-requires
-follow-requires c κs = (c .before .before .before .pre, c .before .step-of .ensures .1)
+follow-requires c κs = (c .before .before .before .pre, c .before .free-step .ensures .1)
 
 enum-known-count : tie.Need-enum-known-count
 enum-known-count c = search needs
@@ -18,26 +18,26 @@ enum-told : tie.Need-enum-told
 enum-told c = search needs
 
 returns : tie.Need-returns
-returns c = free-broken _ _ (c .before .before .before .before .step-of .ensures .0) (c .before .before .follow .ensures) (c .enum-told .given .1)
+returns c = free-broken _ _ (c .before .before .before .before .free-step .ensures .0) (c .before .before .follow .ensures) (c .enum-told .given .1)
 
-word-of-requires : tie.Need-word-of-requires
-word-of-requires c κs = search needs
+free-count-requires : tie.Need-free-count-requires
+free-count-requires c κs = search needs
 
 cast-result : tie.Need-cast-result
 cast-result c = search needs
 
 returns-2 : tie.Need-returns-2
-returns-2 c = free-ended _ _ (c .before .before .before .before .before .before .step-of .ensures .0) (c .before .before .before .before .follow .ensures) _ _ (c .before .before .count .given .1) _ (c .word-of .ensures)
+returns-2 c = free-ended _ _ (c .before .before .before .before .before .before .free-step .ensures .0) (c .before .before .before .before .follow .ensures) _ _ (c .before .before .count .given .1) _ (c .free-count .ensures)
 
 pub free-good-spec : {M : Type 1} → statement M
 free-good-spec =
     tie.close
     (tie.spec
-    step-of-requires
+    free-step-requires
     follow-requires
     enum-known-count
     enum-told
     returns
-    word-of-requires
+    free-count-requires
     cast-result
     returns-2)

@@ -7,9 +7,10 @@ use mathlib.Core.Path.{_≡_, ap, _∙_, subst}
 use mathlib.Core.List.{List}
 use lib.ListN.{length}
 use Rattle.format.specs.Geometry.{Disc}
-use Rattle.format.specs.Layout.{inUse, slotsOf, entries}
-use Rattle.disc.specs.Meaning.{geo, sectorsOf, Inside}
-use Rattle.directory.specs.Meaning.{restOf, Stepped}
+use Rattle.format.specs.Layout.{inUse, slotsAt, slotsOf, entries}
+use Rattle.geometry.specs.Meaning.{geo, sectorsOf}
+use Rattle.disc.specs.Meaning.{Inside}
+use Rattle.directory.specs.Meaning.{restOf, Met, Stepped}
 use Rattle.directory.specs.declared.Step.{Step}
 use Rattle.listing.specs.Laws.{entries-are, entries-few, used-cons, used-over}
 use Rattle.listing.proofs.count_entries.Statement.{statement}
@@ -22,6 +23,32 @@ Inv-loop image g count₀ rest₀ count rest =
 
 abbrev μ-loop : tie.MeasureT-loop
 μ-loop image g count₀ rest₀ count rest = length (restOf g image rest)
+
+-- ---- places: the function's start; the head of a turn
+
+abbrev at-start : tie.At-loop Inv-loop μ-loop → tie.Start Inv-loop μ-loop
+at-start c = c .before .before .before
+
+abbrev at-turn : tie.After-next Inv-loop μ-loop → tie.At-loop Inv-loop μ-loop
+at-turn c = c .before .before .before
+
+-- the sector that a turn meets
+met : (c : tie.After-next Inv-loop μ-loop) → let l = at-turn c in
+    Met (at-start l .args .g) (at-start l .args .image .now) (l .loop .rest) (c .next .given .0 .0 .0) (c .next .given .0 .1 .0)
+met c =
+    let a = at-start (at-turn c) .args in
+    subst (λ (s : Step). Stepped (a .g) (a .image .now) (at-turn c .loop .rest) s) (c .next .given .1) (c .before .before .advance .ensures)
+
+-- the entries that were left are its own and those after it
+left : (c : tie.After-next Inv-loop μ-loop) → let l = at-turn c in
+    let a = at-start l .args in
+    let d = sectorsOf (a .g) (a .image .now) in
+    length (inUse (slotsOf d (restOf (a .g) (a .image .now) (l .loop .rest))))
+    ≡ length (inUse (slotsAt d (c .next .given .0 .0 .0))) + length (inUse (slotsOf d (restOf (a .g) (a .image .now) (c .next .given .0 .1 .0))))
+left c =
+    let a = at-start (at-turn c) .args in
+    let d : Disc = sectorsOf (a .g) (a .image .now) in
+    ap (λ (ns : List ℕ). length (inUse (slotsOf d ns))) (met c .next) ∙ used-cons d _ _
 
 start-requires : tie.Need-start-requires Inv-loop μ-loop
 start-requires c κs = search needs
@@ -44,44 +71,32 @@ enum-told c = search needs
 
 returns : tie.Need-returns Inv-loop μ-loop
 returns c =
-    let a = c .before .before .before .before .before .before .args in
-    let loop = c .before .before .before .loop in
+    let told = c .before .before in
+    let l = told .before in
+    let start = at-start l in
+    let a = start .args in
     let d : Disc = sectorsOf (a .g) (a .image .now) in
-    let over = subst (λ (s : Step). Stepped (a .g) (a .image .now) (loop .rest) s) (c .enum-told .given .1) (c .before .before .advance .ensures) in
+    let over = subst (λ (s : Step). Stepped (a .g) (a .image .now) (l .loop .rest) s) (c .enum-told .given .1) (told .advance .ensures) in
     let none = ap (λ (ns : List ℕ). length (inUse (slotsOf d ns))) over ∙ used-over d in
-    (omega (arith, none, loop .inv .1), omega (arith, none, loop .inv .1, entries-few (c .before .before .before .before .before .before .pre)))
+    (omega (arith, none, l .loop .inv .1), omega (arith, none, l .loop .inv .1, entries-few (start .pre)))
 
 count-sector-requires : tie.Need-count-sector-requires Inv-loop μ-loop
-count-sector-requires c κs =
-    let a = c .before .before .before .before .before .before .before .args in
-    let met = subst (λ (s : Step). Stepped (a .g) (a .image .now) (c .before .before .before .before .loop .rest) s) (c .before .next .given .1) (c .before .before .before .advance .ensures) in
-    (c .before .before .before .before .before .before .before .pre, met .on-disc)
+count-sector-requires c κs = let next = c .before in (at-start (at-turn next) .pre, met next .on-disc)
 
 add-count : tie.Need-add-count Inv-loop μ-loop
 add-count c =
-    let a = c .before .before .before .before .before .before .before .before .args in
-    let loop = c .before .before .before .before .before .loop in
-    let next = c .before .before .next .given in
-    let d : Disc = sectorsOf (a .g) (a .image .now) in
-    let met = subst (λ (s : Step). Stepped (a .g) (a .image .now) (loop .rest) s) (next .1) (c .before .before .before .before .advance .ensures) in
-    let cons = ap (λ (ns : List ℕ). length (inUse (slotsOf d ns))) (met .next) ∙ used-cons d (next .0 .0 .0) (restOf (a .g) (a .image .now) (next .0 .1 .0)) in
-    omega (arith, cons, c .count-sector .ensures, loop .inv .1, entries-few (c .before .before .before .before .before .before .before .before .pre), c .before .before .before .before .before .before .before .before .pre .valid .few-sectors)
+    let next = c .before .before in
+    let l = at-turn next in
+    let im = at-start l .pre in
+    omega (arith, left next, c .count-sector .ensures, l .loop .inv .1, entries-few im, im .valid .few-sectors)
 
 loop-less : tie.Need-loop-less Inv-loop μ-loop
-loop-less c =
-    let a = c .before .before .before .before .before .before .before .before .args in
-    let met = subst (λ (s : Step). Stepped (a .g) (a .image .now) (c .before .before .before .before .before .loop .rest) s) (c .before .before .next .given .1) (c .before .before .before .before .advance .ensures) in
-    omega (arith, ap length (met .next))
+loop-less c = omega (arith, ap length (met (c .before .before) .next))
 
 loop-again : tie.Need-loop-again Inv-loop μ-loop
 loop-again c =
-    let a = c .before .before .before .before .before .before .before .before .args in
-    let loop = c .before .before .before .before .before .loop in
-    let next = c .before .before .next .given in
-    let d : Disc = sectorsOf (a .g) (a .image .now) in
-    let met = subst (λ (s : Step). Stepped (a .g) (a .image .now) (loop .rest) s) (next .1) (c .before .before .before .before .advance .ensures) in
-    let cons = ap (λ (ns : List ℕ). length (inUse (slotsOf d ns))) (met .next) ∙ used-cons d (next .0 .0 .0) (restOf (a .g) (a .image .now) (next .0 .1 .0)) in
-    (met .inside, omega (arith, cons, c .count-sector .ensures, loop .inv .1))
+    let next = c .before .before in
+    (met next .inside, omega (arith, left next, c .count-sector .ensures, at-turn next .loop .inv .1))
 
 pub count-entries-spec : {M : Type 1} → statement M
 count-entries-spec =

@@ -8,7 +8,7 @@ use mathlib.Core.List.{List}
 use lib.ListN.{length}
 use Rattle.format.specs.Geometry.{Disc}
 use Rattle.format.specs.Layout.{slotsEach, Slot, inUse, slotsAt}
-use Rattle.disc.specs.Meaning.{sectorsOf}
+use Rattle.geometry.specs.Meaning.{sectorsOf}
 use Rattle.slots.specs.InOrder.{slotsFrom, slots-all}
 use Rattle.listing.specs.Laws.{used-step, used-few, used-end}
 use Rattle.listing.proofs.count_sector.Statement.{statement}
@@ -22,6 +22,9 @@ Inv-loop image g n count₀ i₀ count i =
 abbrev μ-loop : tie.MeasureT-loop
 μ-loop image g n count₀ i₀ count i = slotsEach - i
 
+abbrev at-start : tie.At-loop Inv-loop μ-loop → tie.Start Inv-loop μ-loop
+at-start c = c .before .before
+
 loop-holds : tie.Need-loop-holds Inv-loop μ-loop
 loop-holds c =
     let a = c .before .args in
@@ -33,10 +36,10 @@ count-slot-requires c κs = search needs
 
 add-count : tie.Need-add-count Inv-loop μ-loop
 add-count c =
-    let a = c .before .before .before .before .args in
-    let loop = c .before .before .loop in
+    let l = c .before .before in
+    let a = at-start l .args in
     let d : Disc = sectorsOf (a .g) (a .image .now) in
-    omega (arith, c .count-slot .ensures, loop .inv .1, used-step d (a .n .0) (loop .i) (omega arith), used-few d (a .n .0))
+    omega (arith, c .count-slot .ensures, l .loop .inv .1, used-step d (a .n .0) (l .loop .i) (omega arith), used-few d (a .n .0))
 
 add-i : tie.Need-add-i Inv-loop μ-loop
 add-i c = search needs
@@ -46,17 +49,16 @@ loop-less c = search needs
 
 loop-again : tie.Need-loop-again Inv-loop μ-loop
 loop-again c =
-    let a = c .before .before .before .before .args in
-    let loop = c .before .before .loop in
+    let l = c .before .before in
+    let a = at-start l .args in
     let d : Disc = sectorsOf (a .g) (a .image .now) in
-    (omega arith, omega (arith, c .count-slot .ensures, loop .inv .1, used-step d (a .n .0) (loop .i) (omega arith)))
+    (omega arith, omega (arith, c .count-slot .ensures, l .loop .inv .1, used-step d (a .n .0) (l .loop .i) (omega arith)))
 
 returns : tie.Need-returns Inv-loop μ-loop
 returns c =
-    let a = c .before .before .before .args in
-    let loop = c .before .loop in
-    let d : Disc = sectorsOf (a .g) (a .image .now) in
-    omega (arith, loop .inv .1, used-end d (a .n .0) (loop .i) (omega arith))
+    let l = c .before in
+    let a = at-start l .args in
+    omega (arith, l .loop .inv .1, used-end (sectorsOf (a .g) (a .image .now)) (a .n .0) (l .loop .i) (omega arith))
 
 pub count-sector-spec : {M : Type 1} → statement M
 count-sector-spec =

@@ -5,14 +5,25 @@ use native.Mathlib.Omega.{arith}
 use mathlib.Core.Path.{ap, ap₂, sym, _∙_}
 use mathlib.Core.List.{List, _∷_, _++_, append-assoc}
 use Prim.Native.Nat.{ℕ, _+_}
-use Rattle.format.specs.Lists.{word}
+use Rattle.lists.specs.Lists.{word}
 use Rattle.format.specs.Geometry.{Disc}
 use Rattle.format.specs.Layout.{discNamePlace, discNameOf, freeCount, usedCount}
-use Rattle.disc.specs.Meaning.{sectorsOf}
+use Rattle.geometry.specs.Meaning.{sectorsOf}
 use Rattle.listing.specs.Laws.{nine-at, two-bytes}
 use Rattle.records.specs.Storing.{stored-as}
 use Rattle.listing.proofs.put_disc.Statement.{statement}
 use Rattle.listing.proofs.put_disc.Tie as tie
+
+-- ---- places: the function's start; where the counts are read; where their bytes are
+
+abbrev at-start : tie.After-start-of → tie.Start
+at-start c = c .before .before .before
+
+abbrev at-words : tie.After-high2 → tie.After-used-count
+at-words c = c .before .before .before .before
+
+abbrev at-counts : tie.After-put-record → tie.After-high2
+at-counts c = c .before .before .before .before
 
 start-of-requires : tie.Need-start-of-requires
 start-of-requires c κs = search needs
@@ -23,11 +34,11 @@ add-start c = search needs
 add-end : tie.Need-add-end
 add-end c = search needs
 
-word-of-requires : tie.Need-word-of-requires
-word-of-requires c κs = search needs
+free-count-requires : tie.Need-free-count-requires
+free-count-requires c κs = search needs
 
-word-of-requires-2 : tie.Need-word-of-requires-2
-word-of-requires-2 c κs = search needs
+used-count-requires : tie.Need-used-count-requires
+used-count-requires c κs = search needs
 
 low-requires : tie.Need-low-requires
 low-requires c κs = search needs
@@ -61,12 +72,19 @@ same-length c = search needs
 
 returns : tie.Need-returns
 returns c =
-    let a = c .before .before .before .before .before .before .before .before .before .before .before .before .before .before .before .args in
-    let d : Disc = sectorsOf (a .g) (a .image .now) in
-    let name = nine-at (c .before .before .before .before .before .before .before .before .before .before .before .before .before .before .before .pre .0) 0 discNamePlace (c .before .before .before .before .before .before .before .before .before .before .before .before .start-of .result + discNamePlace) (omega arith) (omega arith) (omega arith) in
-    let free = two-bytes (c .before .before .before .before .before .before .before .before .before .low .ensures) (c .before .before .before .before .before .before .before .before .high .ensures) (c .before .before .before .before .before .before .before .before .before .before .before .word-of .ensures) in
-    let used = two-bytes (c .before .before .before .before .before .before .before .low2 .ensures) (c .before .before .before .before .before .before .high2 .ensures) (c .before .before .before .before .before .before .before .before .before .before .word-of2 .ensures) in
-    stored-as (ap₂ (λ (xs ys : List ℕ). 1 ∷ xs ++ ys) name (ap₂ (λ (xs ys : List ℕ). xs ++ ys) free used) ∙ ap (λ (xs : List ℕ). 1 ∷ xs) (sym (append-assoc (discNameOf d) (word (freeCount d)) (word (usedCount d))))) (c .before .before .put-record .ensures)
+    let put = c .before .before in
+    let bytes = at-counts put in
+    let words = at-words bytes in
+    let system = words .before .before in
+    let start = at-start system in
+    let d : Disc = sectorsOf (start .args .g) (start .args .image .now) in
+    let name = nine-at (start .pre .0) 0 discNamePlace (system .start-of .result + discNamePlace) (omega arith) (omega arith) (omega arith) in
+    let free = two-bytes (bytes .before .before .before .low .ensures) (bytes .before .before .high .ensures) (words .before .free-count .ensures) in
+    let used = two-bytes (bytes .before .low2 .ensures) (bytes .high2 .ensures) (words .used-count .ensures) in
+    stored-as
+    (ap₂ (λ (xs ys : List ℕ). 1 ∷ xs ++ ys) name (ap₂ (λ (xs ys : List ℕ). xs ++ ys) free used)
+    ∙ ap (λ (xs : List ℕ). 1 ∷ xs) (sym (append-assoc (discNameOf d) (word (freeCount d)) (word (usedCount d)))))
+    (put .put-record .ensures)
 
 pub put-disc-spec : {M : Type 1} → statement M
 put-disc-spec =
@@ -75,8 +93,8 @@ put-disc-spec =
     start-of-requires
     add-start
     add-end
-    word-of-requires
-    word-of-requires-2
+    free-count-requires
+    used-count-requires
     low-requires
     high-requires
     low-requires-2

@@ -3,13 +3,14 @@
 use borrow.Author.Needs.{needs}
 use native.Mathlib.Omega.{arith}
 use Prim.Native.Nat.{ℕ}
-use mathlib.Core.Path.{ap, sym, _∙_, subst}
-use mathlib.Core.List.{List}
+use mathlib.Core.Path.{_≡_, ap, sym, _∙_, subst}
+use mathlib.Core.List.{List, _++_}
 use lib.ListN.{length}
 use Rattle.format.specs.Geometry.{Disc}
 use Rattle.format.specs.Layout.{slotsAt, slotsOf, slots}
-use Rattle.disc.specs.Meaning.{geo, sectorsOf, Inside}
-use Rattle.directory.specs.Meaning.{restOf, Stepped}
+use Rattle.geometry.specs.Meaning.{geo, sectorsOf}
+use Rattle.disc.specs.Meaning.{Inside}
+use Rattle.directory.specs.Meaning.{restOf, Met, Stepped}
 use Rattle.directory.specs.Laws.{slots-none, slots-are}
 use Rattle.directory.specs.declared.Step.{Step}
 use Rattle.listing.specs.Meaning.{recordsOf}
@@ -19,12 +20,47 @@ use Rattle.listing.proofs.put_entries.Statement.{statement}
 use Rattle.listing.proofs.put_entries.Tie as tie
 
 abbrev Inv-loop : tie.InvT-loop
-Inv-loop image g buffer₀ at place₀ rest₀ buffer place rest =
+Inv-loop image g buffer₀ at position₀ rest₀ buffer position rest =
     Inside g (rest .at)
-    × Storing buffer₀ at (recordsOf (slots (geo g) (sectorsOf g image))) buffer place (recordsOf (slotsOf (sectorsOf g image) (restOf g image rest)))
+    × Storing buffer₀ at (recordsOf (slots (geo g) (sectorsOf g image))) buffer position (recordsOf (slotsOf (sectorsOf g image) (restOf g image rest)))
 
 abbrev μ-loop : tie.MeasureT-loop
-μ-loop image g buffer₀ at place₀ rest₀ buffer place rest = length (restOf g image rest)
+μ-loop image g buffer₀ at position₀ rest₀ buffer position rest = length (restOf g image rest)
+
+-- ---- places: the function's start; the head of a turn; where it meets a sector
+
+abbrev at-start : tie.At-loop Inv-loop μ-loop → tie.Start Inv-loop μ-loop
+at-start c = c .before .before .before .before
+
+abbrev at-turn : tie.After-next Inv-loop μ-loop → tie.At-loop Inv-loop μ-loop
+at-turn c = c .before .before .before
+
+abbrev at-next : tie.After-put-sector-records-arg Inv-loop μ-loop → tie.After-next Inv-loop μ-loop
+at-next c = c .before .before
+
+-- the sector that a turn meets
+met : (c : tie.After-next Inv-loop μ-loop) → let l = at-turn c in
+    Met (at-start l .args .g) (at-start l .args .image .now) (l .loop .rest) (c .next .given .0 .0 .0) (c .next .given .0 .1 .0)
+met c =
+    let a = at-start (at-turn c) .args in
+    subst (λ (s : Step). Stepped (a .g) (a .image .now) (at-turn c .loop .rest) s) (c .next .given .1) (c .before .before .advance .ensures)
+
+-- its records, and those of the sectors after it
+abbrev own : tie.After-next Inv-loop μ-loop → List ℕ
+own c = let a = at-start (at-turn c) .args in recordsOf (slotsAt (sectorsOf (a .g) (a .image .now)) (c .next .given .0 .0 .0))
+
+abbrev others : tie.After-next Inv-loop μ-loop → List ℕ
+others c =
+    let a = at-start (at-turn c) .args in
+    recordsOf (slotsOf (sectorsOf (a .g) (a .image .now)) (restOf (a .g) (a .image .now) (c .next .given .0 .1 .0)))
+
+left : (c : tie.After-next Inv-loop μ-loop) → let l = at-turn c in
+    let a = at-start l .args in
+    recordsOf (slotsOf (sectorsOf (a .g) (a .image .now)) (restOf (a .g) (a .image .now) (l .loop .rest))) ≡ own c ++ others c
+left c =
+    let a = at-start (at-turn c) .args in
+    let d : Disc = sectorsOf (a .g) (a .image .now) in
+    ap (λ (ns : List ℕ). recordsOf (slotsOf d ns)) (met c .next) ∙ records-cons d _ _
 
 start-requires : tie.Need-start-requires Inv-loop μ-loop
 start-requires c κs = search needs
@@ -50,41 +86,28 @@ same-length c = c .before .before .before .loop .inv .1 .long
 
 returns : tie.Need-returns Inv-loop μ-loop
 returns c =
-    let a = c .before .before .before .before .before .before .before .args in
-    let loop = c .before .before .before .loop in
+    let told = c .before .before in
+    let l = told .before in
+    let a = at-start l .args in
     let d : Disc = sectorsOf (a .g) (a .image .now) in
-    let over = subst (λ (s : Step). Stepped (a .g) (a .image .now) (loop .rest) s) (c .enum-told .given .1) (c .before .before .advance .ensures) in
-    storing-end (loop .inv .1) (ap recordsOf (ap (slotsOf d) over ∙ slots-none d) ∙ records-none)
+    let over = subst (λ (s : Step). Stepped (a .g) (a .image .now) (l .loop .rest) s) (c .enum-told .given .1) (told .advance .ensures) in
+    storing-end (l .loop .inv .1) (ap recordsOf (ap (slotsOf d) over ∙ slots-none d) ∙ records-none)
 
-put-sector-requires : tie.Need-put-sector-requires Inv-loop μ-loop
-put-sector-requires c κs =
-    let a = c .before .before .before .before .before .before .before .before .before .args in
-    let loop = c .before .before .before .before .before .loop in
-    let next = c .before .before .next .given in
-    let d : Disc = sectorsOf (a .g) (a .image .now) in
-    let n : ℕ = next .0 .0 .0 in
-    let ns : List ℕ = restOf (a .g) (a .image .now) (next .0 .1 .0) in
-    let met = subst (λ (s : Step). Stepped (a .g) (a .image .now) (loop .rest) s) (next .1) (c .before .before .before .before .advance .ensures) in
-    let cons = ap (λ (ns : List ℕ). recordsOf (slotsOf d ns)) (met .next) ∙ records-cons d n ns in
-    (c .before .before .before .before .before .before .before .before .before .pre .0, met .on-disc, storing-room (recordsOf (slotsAt d n)) (recordsOf (slotsOf d ns)) (loop .inv .1) cons (c .before .before .before .before .before .before .before .before .before .pre .1))
+put-sector-records-requires : tie.Need-put-sector-records-requires Inv-loop μ-loop
+put-sector-records-requires c κs =
+    let next = at-next c in
+    let l = at-turn next in
+    let pre = at-start l .pre in
+    (pre .0, met next .on-disc, storing-room (own next) (others next) (l .loop .inv .1) (left next) (pre .1))
 
 loop-less : tie.Need-loop-less Inv-loop μ-loop
-loop-less c =
-    let a = c .before .before .before .before .before .before .before .before .before .before .before .before .args in
-    let met = subst (λ (s : Step). Stepped (a .g) (a .image .now) (c .before .before .before .before .before .before .before .before .loop .rest) s) (c .before .before .before .before .before .next .given .1) (c .before .before .before .before .before .before .before .advance .ensures) in
-    omega (arith, ap length (met .next))
+loop-less c = omega (arith, ap length (met (at-next (c .before .before .before)) .next))
 
 loop-again : tie.Need-loop-again Inv-loop μ-loop
 loop-again c =
-    let a = c .before .before .before .before .before .before .before .before .before .before .before .before .args in
-    let loop = c .before .before .before .before .before .before .before .before .loop in
-    let next = c .before .before .before .before .before .next .given in
-    let d : Disc = sectorsOf (a .g) (a .image .now) in
-    let n : ℕ = next .0 .0 .0 in
-    let ns : List ℕ = restOf (a .g) (a .image .now) (next .0 .1 .0) in
-    let met = subst (λ (s : Step). Stepped (a .g) (a .image .now) (loop .rest) s) (next .1) (c .before .before .before .before .before .before .before .advance .ensures) in
-    let cons = ap (λ (ns : List ℕ). recordsOf (slotsOf d ns)) (met .next) ∙ records-cons d n ns in
-    (met .inside, storing-step (recordsOf (slotsAt d n)) (recordsOf (slotsOf d ns)) (loop .inv .1) cons (c .before .before .put-sector .ensures))
+    let put = c .before .before in
+    let next = at-next (put .before) in
+    (met next .inside, storing-step (own next) (others next) (at-turn next .loop .inv .1) (left next) (put .put-sector-records .ensures))
 
 pub put-entries-spec : {M : Type 1} → statement M
 put-entries-spec =
@@ -99,6 +122,6 @@ put-entries-spec =
     enum-told
     same-length
     returns
-    put-sector-requires
+    put-sector-records-requires
     loop-less
     loop-again)

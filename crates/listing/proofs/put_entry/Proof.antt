@@ -5,13 +5,24 @@ use native.Mathlib.Omega.{arith}
 use mathlib.Core.Path.{ap, ap₂, sym, _∙_}
 use mathlib.Core.List.{List, [], _∷_, _++_, append-assoc}
 use Prim.Native.Nat.{ℕ, _+_}
-use Rattle.format.specs.Lists.{word}
+use Rattle.lists.specs.Lists.{word}
 use Rattle.format.specs.Layout.{Slot, nameOf, lengthOf, attributeOf, slotAt}
-use Rattle.disc.specs.Meaning.{sectorsOf}
+use Rattle.geometry.specs.Meaning.{sectorsOf}
 use Rattle.listing.specs.Laws.{name-at, two-bytes}
 use Rattle.records.specs.Storing.{stored-as}
 use Rattle.listing.proofs.put_entry.Statement.{statement}
 use Rattle.listing.proofs.put_entry.Tie as tie
+
+-- ---- places: the function's start; where the entry is read; where the bytes of its length are
+
+abbrev at-start : tie.After-start-of → tie.Start
+at-start c = c .before .before .before
+
+abbrev at-entry : tie.After-high → tie.After-entry-of
+at-entry c = c .before .before
+
+abbrev at-numbers : tie.After-put-record → tie.After-high
+at-numbers c = c .before .before .before .before
 
 start-of-requires : tie.Need-start-of-requires
 start-of-requires c κs = search needs
@@ -54,13 +65,21 @@ same-length c = search needs
 
 returns : tie.Need-returns
 returns c =
-    let a = c .before .before .before .before .before .before .before .before .before .before .before .before .before .args in
+    let put = c .before .before in
+    let bytes = at-numbers put in
+    let read = at-entry bytes in
+    let slot = read .before in
+    let sector = slot .before in
+    let a = at-start sector .args in
     let s : Slot = slotAt (sectorsOf (a .g) (a .image .now)) (a .n .0) (a .i) in
-    let start : ℕ = c .before .before .before .before .before .before .before .before .before .before .start-of .result + c .before .before .before .before .before .before .before .before .before .slot-start .result in
-    let name = name-at (c .before .before .before .before .before .before .before .before .before .before .before .before .before .pre .0) (a .n .0) (a .i) start (omega arith) (omega arith) (omega (arith, c .before .before .before .before .before .before .before .before .before .before .start-of .ensures .at, c .before .before .before .before .before .before .before .before .before .slot-start .ensures)) in
-    let long = two-bytes (c .before .before .before .before .before .before .before .low .ensures) (c .before .before .before .before .before .before .high .ensures) (c .before .before .before .before .before .before .before .before .entry-of .ensures .length-is) in
-    let numbers = ap₂ (λ (xs : List ℕ) (x : ℕ). xs ++ x ∷ []) long (c .before .before .before .before .before .before .before .before .entry-of .ensures .attribute-is) in
-    stored-as (ap₂ (λ (xs ys : List ℕ). 2 ∷ xs ++ ys) name numbers ∙ ap (λ (xs : List ℕ). 2 ∷ xs) (sym (append-assoc (nameOf s) (word (lengthOf s)) (attributeOf s ∷ [])))) (c .before .before .put-record .ensures)
+    let name = name-at (at-start sector .pre .0) (a .n .0) (a .i) (sector .start-of .result + slot .slot-start .result)
+    (omega arith) (omega arith) (omega (arith, sector .start-of .ensures .at, slot .slot-start .ensures)) in
+    let long = two-bytes (bytes .before .low .ensures) (bytes .high .ensures) (read .entry-of .ensures .length-is) in
+    let numbers = ap₂ (λ (xs : List ℕ) (x : ℕ). xs ++ x ∷ []) long (read .entry-of .ensures .attribute-is) in
+    stored-as
+    (ap₂ (λ (xs ys : List ℕ). 2 ∷ xs ++ ys) name numbers
+    ∙ ap (λ (xs : List ℕ). 2 ∷ xs) (sym (append-assoc (nameOf s) (word (lengthOf s)) (attributeOf s ∷ []))))
+    (put .put-record .ensures)
 
 pub put-entry-spec : {M : Type 1} → statement M
 put-entry-spec =

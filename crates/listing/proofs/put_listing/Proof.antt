@@ -2,37 +2,52 @@
 -- Assumes nothing.
 use native.Mathlib.Omega.{arith}
 use lib.ListN.{length-set}
-use Rattle.disc.specs.Meaning.{geo, sectorsOf}
+use Rattle.geometry.specs.Meaning.{geo, sectorsOf}
 use Rattle.listing.specs.Laws.{disc-long}
 use Rattle.listing.specs.Whole.{room-disc, room-entries, room-last, same-long, whole}
 use Rattle.listing.proofs.put_listing.Statement.{statement}
 use Rattle.listing.proofs.put_listing.Tie as tie
 
+-- ---- places: the function's start; where the record of the disc is stored, and where those of the entries are
+
+abbrev at-start : tie.After-put-disc-arg → tie.Start
+at-start c = c .before .before .before
+
+abbrev at-disc : tie.After-put-entries-arg → tie.After-put-disc
+at-disc c = c .before .before .before
+
+abbrev at-entries : tie.After-slice-known3 → tie.After-put-entries
+at-entries c = c .before .before
+
 put-disc-requires : tie.Need-put-disc-requires
 put-disc-requires c κs =
-    let a = c .before .before .before .args in
-    let room = room-disc (geo (a .g)) (sectorsOf (a .g) (a .image .now)) (a .buffer .now) (c .before .before .before .pre .1) in
-    (c .before .before .before .pre .0, omega (arith, disc-long (c .before .before .before .pre .0)))
+    let a = at-start c .args in
+    let pre = at-start c .pre in
+    (pre .0, omega (arith, disc-long (pre .0), room-disc (geo (a .g)) (sectorsOf (a .g) (a .image .now)) (a .buffer .now) (pre .1)))
 
 put-entries-requires : tie.Need-put-entries-requires
 put-entries-requires c κs =
-    let a = c .before .before .before .before .before .before .before .args in
-    (c .before .before .before .before .before .before .before .pre .0, room-entries (geo (a .g)) (sectorsOf (a .g) (a .image .now)) (a .buffer .now) (c .before .before .before .before .before .before .before .pre .1) (c .before .before .before .put-disc .ensures))
+    let disc = at-disc c in
+    let pre = at-start (disc .before) .pre in
+    (pre .0, room-entries _ _ _ (pre .1) (disc .put-disc .ensures))
 
 slice-write-buffer : tie.Need-slice-write-buffer
 slice-write-buffer c =
-    let a = c .before .before .before .before .before .before .before .before .before .before .args in
-    room-last (geo (a .g)) (sectorsOf (a .g) (a .image .now)) (a .buffer .now) (c .before .before .before .before .before .before .before .before .before .before .pre .1) (c .before .before .before .before .before .before .put-disc .ensures) (c .before .before .put-entries .ensures)
+    let entries = at-entries c in
+    let disc = at-disc (entries .before) in
+    room-last _ _ _ (at-start (disc .before) .pre .1) (disc .put-disc .ensures) (entries .put-entries .ensures)
 
 same-length : tie.Need-same-length
 same-length c =
-    let a = c .before .before .before .before .before .before .before .before .before .before .args in
-    simp length-set (same-long (geo (a .g)) (sectorsOf (a .g) (a .image .now)) (a .buffer .now) (c .before .before .before .before .before .before .before .before .before .before .pre .1) (c .before .before .before .before .before .before .put-disc .ensures) (c .before .before .put-entries .ensures))
+    let entries = at-entries c in
+    let disc = at-disc (entries .before) in
+    simp length-set (same-long _ _ _ (at-start (disc .before) .pre .1) (disc .put-disc .ensures) (entries .put-entries .ensures))
 
 returns : tie.Need-returns
 returns c =
-    let a = c .before .before .before .before .before .before .before .before .before .before .args in
-    whole (geo (a .g)) (sectorsOf (a .g) (a .image .now)) (a .buffer .now) (c .before .before .before .before .before .before .before .before .before .before .pre .1) (c .before .before .before .before .before .before .put-disc .ensures) (c .before .before .put-entries .ensures)
+    let entries = at-entries c in
+    let disc = at-disc (entries .before) in
+    whole _ _ _ (at-start (disc .before) .pre .1) (disc .put-disc .ensures) (entries .put-entries .ensures)
 
 pub put-listing-spec : {M : Type 1} → statement M
 put-listing-spec =

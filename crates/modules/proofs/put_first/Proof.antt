@@ -1,19 +1,23 @@
 -- `modules::put_first` meets its contract.
 -- Assumes nothing.
-use mathlib.Core.Path.{_≡_, ap, ap₂, _∙_}
-use Prim.Native.Nat.{ℕ, _-_}
+use Prim.Native.Nat.{_-_}
 use native.Mathlib.Omega.{arith}
-use mathlib.Core.List.{List, _∷_, _++_}
-use lib.ListN.{set, take, length-take}
+use lib.ListN.{length-take}
 use borrow.Author.Needs.{needs}
-use Rattle.format.specs.Lists.{padded, word}
-use Rattle.format.specs.Layout.{linkBytes}
-use Rattle.format.specs.Modules.{Module, endOf, firstBody}
-use Rattle.disc.specs.Meaning.{geo, meaning, sectorsOf}
 use Rattle.modules.specs.Meaning.{moduleOf}
-use Rattle.modules.specs.Laws.{take-part}
+use Rattle.modules.specs.Laws.{first-part}
 use Rattle.modules.proofs.put_first.Statement.{statement}
 use Rattle.modules.proofs.put_first.Tie as tie
+
+-- the places that the answers go back to
+abbrev at-numbers : tie.After-part-len → tie.After-struct-known
+at-numbers c = c .before .before
+
+abbrev at-start : tie.After-part-len → tie.Start
+at-start c = at-numbers c .before .before .before
+
+abbrev at-part : tie.After-put-body-arg2 → tie.After-part-len
+at-part c = c .before .before .before
 
 cast-start : tie.Need-cast-start
 cast-start c = search needs
@@ -65,25 +69,20 @@ part-put-body-end c = search needs
 
 put-body-requires : tie.Need-put-body-requires
 put-body-requires c κs =
-    let part-len = c .before .before .before .part-len in
-    let pre = c .before .before .before .before .before .before .before .before .pre in
-    (pre .0, pre .1, pre .2, omega (arith, length-take (part-len .result - 0) (c .before .before .before .before .before .before .before .before .args .bytes .now), part-len .ensures .few))
+    let part = at-part c .part-len in
+    let start = at-start (at-part c) in
+    let pre = start .pre in
+    (pre .0, pre .1, pre .2, omega (arith, length-take (part .result - 0) (start .args .bytes .now), part .ensures .few))
 
 same-length : tie.Need-same-length
 same-length c = search needs
 
 returns : tie.Need-returns
-unfolding firstBody
 returns c =
-    let part-len = c .before .before .before .before .before .before .part-len in
-    let a = c .before .before .before .before .before .before .before .before .before .before .before .args in
-    let m : Module = moduleOf (a .m) (a .bytes .now) in
-    let size : ℕ = part-len .result in
-    let long = part-len .ensures .long in
-    let back : size - 0 ≡ size = omega arith in
-    let part : take (size - 0) (a .bytes .now) ≡ take 245 (a .bytes .now) = ap (λ (k : ℕ). take k (a .bytes .now)) (back ∙ long) ∙ take-part 245 (a .bytes .now) in
-    c .before .before .put-body .ensures
-    ∙ ap₂ (λ (k : ℕ) (xs : List ℕ). set (sectorsOf (a .g) (a .image .now)) (a .n .0) (linkBytes (geo (a .g)) (meaning (a .next)) ++ padded 254 0 (0xFF ∷ m .page ∷ word (m .start) ++ word (endOf m) ++ word (m .transfer) ++ k ∷ xs))) long part
+    let put = c .before .before in
+    let part = at-part (put .before) .part-len in
+    let a = at-start (at-part (put .before)) .args in
+    rw (← first-part (moduleOf (a .m) (a .bytes .now)) (part .ensures) (part .result - 0) (omega arith)) (put .put-body .ensures)
 
 pub put-first-spec : {M : Type 1} → statement M
 put-first-spec =

@@ -1,18 +1,18 @@
 -- `modules::put_later` meets its contract.
 -- Assumes nothing.
-use mathlib.Core.Path.{_≡_, ap, ap₂, _∙_}
-use Prim.Native.Nat.{ℕ, _+_, _-_}
+use Prim.Native.Nat.{_+_, _-_}
 use native.Mathlib.Omega.{arith}
-use mathlib.Core.List.{List, _∷_, _++_}
-use lib.ListN.{set, take, drop}
 use borrow.Author.Needs.{needs}
-use Rattle.format.specs.Lists.{padded}
-use Rattle.format.specs.Layout.{linkBytes}
-use Rattle.format.specs.Modules.{laterBody}
-use Rattle.disc.specs.Meaning.{geo, meaning, sectorsOf}
-use Rattle.modules.specs.Laws.{take-part}
+use Rattle.modules.specs.Laws.{later-part}
 use Rattle.modules.proofs.put_later.Statement.{statement}
 use Rattle.modules.proofs.put_later.Tie as tie
+
+-- the places that the answers go back to
+abbrev at-start : tie.After-part-len → tie.Start
+at-start c = c .before .before .before
+
+abbrev at-part : tie.After-put-body → tie.After-part-len
+at-part c = c .before .before .before .before
 
 part-len-requires : tie.Need-part-len-requires
 part-len-requires c κs = search needs
@@ -42,17 +42,11 @@ same-length : tie.Need-same-length
 same-length c = search needs
 
 returns : tie.Need-returns
-unfolding laterBody
 returns c =
-    let part-len = c .before .before .before .before .before .before .part-len in
-    let a = c .before .before .before .before .before .before .before .before .before .args in
-    let rest : List ℕ = drop (a .at) (a .bytes .now) in
-    let size : ℕ = part-len .result in
-    let long = part-len .ensures .long in
-    let back : a .at + size - a .at ≡ size = omega arith in
-    let part : take (a .at + size - a .at) rest ≡ take 253 rest = ap (λ (k : ℕ). take k rest) (back ∙ long) ∙ take-part 253 rest in
-    c .before .before .put-body .ensures
-    ∙ ap₂ (λ (k : ℕ) (xs : List ℕ). set (sectorsOf (a .g) (a .image .now)) (a .n .0) (linkBytes (geo (a .g)) (meaning (a .next)) ++ padded 254 0 (k ∷ xs))) long part
+    let put = c .before .before in
+    let part = at-part put .part-len in
+    let at = at-start (at-part put) .args .at in
+    rw (← later-part (part .ensures) (at + part .result - at) (omega arith)) (put .put-body .ensures)
 
 pub put-later-spec : {M : Type 1} → statement M
 put-later-spec =

@@ -7,7 +7,7 @@ use Prim.Native.Nat.{_-_, _≤_}
 use mathlib.Core.Path.{_≡_}
 use mathlib.Core.Bool.{and-false}
 use lib.ListN.{length, drop}
-use Rattle.format.specs.Lists.{all}
+use Rattle.lists.specs.Lists.{all}
 use Rattle.format.specs.Names.{letter, letters}
 use Rattle.names.specs.Laws.{all-drop, all-end}
 use Rattle.names.proofs.are_letters.Statement.{statement}
@@ -18,6 +18,10 @@ Inv-loop text most i₀ i = (i ≤ length text) × (letters 1 most text ≡ all 
 
 abbrev μ-loop : tie.MeasureT-loop
 μ-loop text most i₀ i = length text - i
+
+-- a turn of the loop, where its byte is judged
+abbrev at-turn : tie.After-is-letter Inv-loop μ-loop → tie.In-loop Inv-loop μ-loop
+at-turn c = c .before .before
 
 returns : tie.Need-returns Inv-loop μ-loop
 unfolding letters
@@ -41,9 +45,10 @@ is-letter-requires c κs = search needs
 
 returns-3 : tie.Need-returns-3 Inv-loop μ-loop
 returns-3 c =
-    let within = c .before .before .before .loop-test .taken in
+    let turn = at-turn (c .before) in
+    let within = turn .loop-test .taken in
     let tested = c .before .is-letter in
-    simp (c .before .before .before .before .loop .inv .1, all-drop, ← tested .ensures, not-true (tested .result) (c .if3 .taken))
+    simp (turn .before .loop .inv .1, all-drop, ← tested .ensures, not-true (tested .result) (c .if3 .taken))
 
 add-i : tie.Need-add-i Inv-loop μ-loop
 add-i c = search needs
@@ -53,9 +58,10 @@ loop-less c = search needs
 
 loop-again : tie.Need-loop-again Inv-loop μ-loop
 loop-again c =
-    let within = c .before .before .before .loop-test .taken in
+    let turn = at-turn (c .before) in
+    let within = turn .loop-test .taken in
     let tested = c .before .is-letter in
-    (search needs, simp (c .before .before .before .before .loop .inv .1, all-drop, ← tested .ensures, not-false (tested .result) (c .if3 .left)))
+    (search needs, simp (turn .before .loop .inv .1, all-drop, ← tested .ensures, not-false (tested .result) (c .if3 .left)))
 
 returns-4 : tie.Need-returns-4 Inv-loop μ-loop
 returns-4 c =

@@ -8,6 +8,14 @@ use Rattle.names.specs.Laws.{take-rest, stored-dotted, stored-plain, sto
 use Rattle.names.proofs.file_name.Statement.{statement}
 use Rattle.names.proofs.file_name.Tie as tie
 
+-- ---- places: the function's start; where a dot is found
+
+abbrev at-start : tie.After-dot-index → tie.Start
+at-start c = c .before .before .before
+
+abbrev at-dotted : tie.After-with-extension → tie.Then2
+at-dotted c = c .before .before .before
+
 refused-requires : tie.Need-refused-requires
 refused-requires c κs = search needs
 
@@ -37,18 +45,20 @@ with-extension-requires c κs = search needs
 
 returns-2 : tie.Need-returns-2
 returns-2 c =
-    let found = c .before .before .before .before .dot-index in
-    let typed = c .before .before .before .before .before .before .before .args .typed .now in
-    simp take-rest at (c .with-extension .ensures) ∙ ap parsed (sym (stored-dotted typed (found .result) (found .ensures) (c .before .before .before .if2 .taken)))
+    let dotted = at-dotted c in
+    let found = dotted .before .dot-index in
+    simp take-rest at (c .with-extension .ensures)
+    ∙ ap parsed (sym (stored-dotted (at-start (dotted .before) .args .typed .now) (found .result) (found .ensures) (dotted .if2 .taken)))
 
 padded-letters-requires : tie.Need-padded-letters-requires
 padded-letters-requires c κs = search needs
 
 returns-3 : tie.Need-returns-3
 returns-3 c =
-    let found = c .before .before .dot-index in
-    let typed = c .before .before .before .before .before .args .typed .now in
-    c .padded-letters .ensures ∙ ap parsed (sym (stored-plain typed (found .result) (found .ensures) (c .before .if2 .left)))
+    let plain = c .before in
+    let found = plain .before .dot-index in
+    c .padded-letters .ensures
+    ∙ ap parsed (sym (stored-plain (at-start (plain .before) .args .typed .now) (found .result) (found .ensures) (plain .if2 .left)))
 
 pub file-name-spec : {M : Type 1} → statement M
 file-name-spec =

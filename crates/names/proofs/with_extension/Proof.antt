@@ -14,6 +14,14 @@ use Rattle.names.specs.Laws.{paste-extension, letters-few}
 use Rattle.names.proofs.with_extension.Statement.{statement}
 use Rattle.names.proofs.with_extension.Tie as tie
 
+-- ---- places: the function's start; where the name is good
+
+abbrev at-start : tie.After-are-letters → tie.Start
+at-start c = c .before .before .before
+
+abbrev at-named : tie.Else2 → tie.Else1
+at-named c = c .before .before
+
 are-letters-requires : tie.Need-are-letters-requires
 are-letters-requires c κs = search needs
 
@@ -41,15 +49,15 @@ returns-2 c =
 -- what is known after both tests
 module _ (c : tie.Else2) where
   abbrev name : List ℕ
-  name = c .before .before .before .before .before .before .args .name .now
+  name = at-start (at-named c .before) .args .name .now
 
   abbrev extension : List ℕ
-  extension = c .before .before .before .before .before .before .args .extension .now
+  extension = at-start (at-named c .before) .args .extension .now
 
   name-letters : letters 1 6 name ≡ true
   name-letters =
-      let tested = c .before .before .before .are-letters in
-      sym (tested .ensures) ∙ not-false (tested .result) (c .before .before .if1 .left)
+      let tested = at-named c .before .are-letters in
+      sym (tested .ensures) ∙ not-false (tested .result) (at-named c .if1 .left)
 
   extension-letters : letters 1 3 extension ≡ true
   extension-letters =

@@ -5,7 +5,7 @@ use Prim.Native.Nat.{ℕ, _+_, _≤_}
 use native.Mathlib.Omega.{arith}
 use borrow.Author.Needs.{needs}
 use Rattle.format.specs.Formats.{order-range}
-use Rattle.disc.specs.Laws.{good}
+use Rattle.geometry.specs.Laws.{good}
 use Rattle.passing.specs.Meaning.{Stop}
 use Rattle.passing.proofs.stop_at.Statement.{statement}
 use Rattle.passing.proofs.stop_at.Tie as tie

@@ -7,8 +7,9 @@ use native.Mathlib.Omega.{arith}
 use borrow.Author.Needs.{needs}
 use Rattle.format.specs.Geometry.{sectorNumber, onDisc}
 use Rattle.format.specs.GeometryLaws.{on-disc}
-use Rattle.disc.specs.Meaning.{geo, Starts}
-use Rattle.disc.specs.Laws.{number-on, starts-at, lies}
+use Rattle.geometry.specs.Meaning.{geo, Starts}
+use Rattle.geometry.specs.Laws.{number-on, starts-at}
+use Rattle.disc.specs.Laws.{lies}
 use Rattle.passing.proofs.stop_on.Statement.{statement}
 use Rattle.passing.proofs.stop_on.Tie as tie
 
@@ -48,7 +49,7 @@ returns c =
     let start = c .before in
     let v = start .pre .0 in
     let is = c .number-of .ensures in
-    (is, lies v _ (omega (arith, is, number-on v (start .args .track) (start .args .stop % 256) (on start))) (rw is (placed start)))
+    (is, lies _ (omega (arith, is, number-on v (start .args .track) (start .args .stop % 256) (on start))) (rw is (placed start)))
 
 pub stop-on-spec : {M : Type 1} → statement M
 stop-on-spec = tie.close (tie.spec cast-number-of number-of-requires mul-t7 mul-t8 mul-t9 cast-t10 add-t11 returns)

@@ -7,7 +7,7 @@ use native.Mathlib.Decide.{ℕ-discrete}
 use borrow.Author.Needs.{needs}
 use lib.ListN.{length, getD, length-set}
 use lib.Seq.{getD-set-same, getD-set-other}
-use Rattle.disc.specs.Meaning.{geo}
+use Rattle.geometry.specs.Meaning.{geo}
 use Rattle.passing.specs.Meaning.{Stop}
 use Rattle.passing.proofs.stops.Statement.{statement}
 use Rattle.passing.proofs.stops.Tie as tie
@@ -19,11 +19,14 @@ Inv-loop g stops₀ i₀ stops i =
 abbrev μ-loop : tie.MeasureT-loop
 μ-loop g stops₀ i₀ stops i = geo g .perTrack - i
 
+abbrev at-start : tie.Then1 Inv-loop μ-loop → tie.Start Inv-loop μ-loop
+at-start c = c .before .before .before
+
 loop-holds : tie.Need-loop-holds Inv-loop μ-loop
 loop-holds c = (omega arith, refl, λ j h. absurd (omega arith))
 
 stop-at-requires : tie.Need-stop-at-requires Inv-loop μ-loop
-stop-at-requires c κs = (c .before .before .before .pre, c .if1 .taken)
+stop-at-requires c κs = (at-start c .pre, c .if1 .taken)
 
 mul-stops : tie.Need-mul-stops Inv-loop μ-loop
 mul-stops c = search needs
@@ -39,10 +42,10 @@ loop-less c = search needs
 
 loop-again : tie.Need-loop-again Inv-loop μ-loop
 loop-again c =
-    let more = c .before .if1 .taken in
-    let l = c .before .before .before .loop in
-    let start = c .before .before .before .before in
-    let few = start .pre .few-on-track in
+    let turn = c .before in
+    let more = turn .if1 .taken in
+    let l = turn .before .before .loop in
+    let few = at-start turn .pre .few-on-track in
     let stop = c .stop-at .result in (
       omega (arith, more),
       length-set (l .stops) (l .i) stop ∙ l .inv .1,

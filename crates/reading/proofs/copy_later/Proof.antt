@@ -3,10 +3,13 @@
 use native.Mathlib.Omega.{arith}
 use borrow.Author.Needs.{needs}
 use Rattle.format.specs.GeometryLaws.{sector-full}
-use Rattle.disc.specs.Laws.{image-full}
+use Rattle.geometry.specs.Laws.{image-full}
 use Rattle.reading.specs.CopyLaws.{copied-whole}
 use Rattle.reading.proofs.copy_later.Statement.{statement}
 use Rattle.reading.proofs.copy_later.Tie as tie
+
+abbrev at-start : tie.Then1 → tie.Start
+at-start c = c .before .before .before
 
 sub-if1 : tie.Need-sub-if1
 sub-if1 c = search needs
@@ -24,7 +27,7 @@ returns : tie.Need-returns
 returns c =
     let copied = c .before .before in
     let tested = copied .before .before in
-    let start = tested .before .before .before in
+    let start = at-start tested in
     let im = start .pre .0 in
     let long = sector-full (image-full im) (start .args .s .number .0) (omega (arith, start .pre .1 .on, im .valid .total)) in
     copied-whole (omega (arith, long)) (omega (arith, tested .if1 .taken, start .pre .2)) (copied .copy-part .ensures)

@@ -9,7 +9,8 @@ use lib.Seq.{sets, take-nil}
 use borrow.Author.Needs.{needs}
 use Rattle.format.specs.Geometry.{sector}
 use Rattle.format.specs.Modules.{plain}
-use Rattle.disc.specs.Meaning.{geo, sectorsOf, Lies}
+use Rattle.geometry.specs.Meaning.{geo, sectorsOf}
+use Rattle.disc.specs.Meaning.{Lies}
 use Rattle.reading.specs.Plain.{laterBytes}
 use Rattle.reading.specs.Meaning.{bytesIn, bodiesOf, fileBodies, bodiesAfter, Followed}
 use Rattle.reading.specs.FileLaws.{file-followed, followed-leads, followed-step, bytes-step, none-follow}
@@ -30,27 +31,43 @@ Inv-loop image g count size buffer₀ at₀ s₀ j₀ buffer at s j =
 abbrev μ-loop : tie.MeasureT-loop
 μ-loop image g count size buffer₀ at₀ s₀ j₀ buffer at s j = count - j
 
+-- ---- places: the function's start; where the first sector is copied; the start, from the loop; the head of a turn
+
+abbrev at-start : tie.After-copy-part-arg Inv-loop μ-loop → tie.Start Inv-loop μ-loop
+at-start c = c .before .before .before
+
+abbrev at-first : tie.At-loop Inv-loop μ-loop → tie.After-copy-part Inv-loop μ-loop
+at-first l = l .before .before .before
+
+abbrev begin : tie.At-loop Inv-loop μ-loop → tie.Start Inv-loop μ-loop
+begin l = at-start (at-first l .before)
+
+abbrev at-turn : tie.After-next-of Inv-loop μ-loop → tie.At-loop Inv-loop μ-loop
+at-turn c = c .before .before
+
 copy-part-requires : tie.Need-copy-part-requires Inv-loop μ-loop
 copy-part-requires c κs =
-    let pre = c .before .before .before .pre in
+    let pre = at-start c .pre in
     (pre .0 .on-image, pre .3, omega arith, omega arith, pre .2)
 
 loop-holds : tie.Need-loop-holds Inv-loop μ-loop
 loop-holds c =
-    let pre = c .before .before .before .before .before .before .pre in
-    (pre .0 .some-sector, file-followed (pre .0), c .before .before .copy-part .ensures .inside, refl, refl, pre .3)
+    let first = c .before .before in
+    let pre = at-start (first .before) .pre in
+    (pre .0 .some-sector, file-followed (pre .0), first .copy-part .ensures .inside, refl, refl, pre .3)
 
 next-of-requires : tie.Need-next-of-requires Inv-loop μ-loop
 next-of-requires c κs =
-    let f = c .before .loop .inv .1 in
-    (c .before .before .before .before .before .before .before .before .pre .0 .on-image, c .before .loop .inv .5, followed-leads _ _ _ f (c .loop-test .taken))
+    let l = c .before in
+    (begin l .pre .0 .on-image, l .loop .inv .5, followed-leads _ _ _ (l .loop .inv .1) (c .loop-test .taken))
 
 copy-later-requires : tie.Need-copy-later-requires Inv-loop μ-loop
 copy-later-requires c κs =
-    let loop = c .before .before .before .loop in
-    let pre = c .before .before .before .before .before .before .before .before .before .before .pre in
-    let long = copied-long (c .before .before .before .before .before .before .copy-part .ensures) in
-    (pre .0 .on-image, c .before .next-of .ensures .1, loop .inv .2, omega (arith, long, loop .inv .3, pre .2))
+    let next = c .before in
+    let l = at-turn next in
+    let pre = begin l .pre in
+    let long = copied-long (at-first l .copy-part .ensures) in
+    (pre .0 .on-image, next .next-of .ensures .1, l .loop .inv .2, omega (arith, long, l .loop .inv .3, pre .2))
 
 add-j : tie.Need-add-j Inv-loop μ-loop
 add-j c = search needs
@@ -60,23 +77,25 @@ loop-less c = search needs
 
 loop-again : tie.Need-loop-again Inv-loop μ-loop
 loop-again c =
-    let loop = c .before .before .before .before .before .before .loop in
-    let next-of = c .before .before .before .before .next-of in
-    let a = c .before .before .before .before .before .before .before .before .before .before .before .before .before .args in
-    let inv = loop .inv in
-    let j : ℕ = loop .j in
-    let m : ℕ = next-of .result .number .0 in
-    let on = c .before .before .before .before .before .loop-test .taken in
-    let link = next-of .ensures .0 in
-    let copied = c .before .before .copy-later .ensures in (
+    let copy = c .before .before in
+    let next = copy .before .before in
+    let l = at-turn next in
+    let a = begin l .args in
+    let inv = l .loop .inv in
+    let n : ℕ = l .loop .s .number .0 in
+    let j : ℕ = l .loop .j in
+    let m : ℕ = next .next-of .result .number .0 in
+    let on = next .before .loop-test .taken in
+    let link = next .next-of .ensures .0 in
+    let copied = copy .copy-later .ensures in (
       omega arith,
-      followed-step (loop .s .number .0) (a .count) j (inv .1) on m link (next-of .ensures .1 .on),
+      followed-step n (a .count) j (inv .1) on m link (next .next-of .ensures .1 .on),
       copied .inside,
       copied-long copied ∙ inv .3,
       copied-on copied (inv .2) (laterBytes (bodiesAfter (a .g) (a .image .now) m (a .count - (j + 1))))
-          ∙ ap (λ (xs : List ℕ). sets (loop .buffer) (loop .at) (take (a .size - loop .at) xs)) (sym (bytes-step (loop .s .number .0) (a .count) j (inv .1) on m link))
+          ∙ ap (λ (xs : List ℕ). sets (l .loop .buffer) (l .loop .at) (take (a .size - l .loop .at) xs)) (sym (bytes-step n (a .count) j (inv .1) on m link))
           ∙ inv .4,
-      next-of .ensures .1,
+      next .next-of .ensures .1,
     )
 
 same-length : tie.Need-same-length Inv-loop μ-loop
@@ -84,21 +103,24 @@ same-length c = search needs
 
 returns : tie.Need-returns Inv-loop μ-loop
 returns c =
-    let loop = c .before .loop in
-    let pre = c .before .before .before .before .before .before .before .before .pre in
-    let a = c .before .before .before .before .before .before .before .before .args in
+    let l = c .before in
+    let start = begin l in
+    let a = start .args in
     let d = sectorsOf (a .g) (a .image .now) in
     let rest : List ℕ = laterBytes (bodiesAfter (a .g) (a .image .now) (a .first .number .0) (a .count - 1)) in
-    let left : ℕ = a .size - loop .at in
-    let end = ap (λ (ns : List ℕ). take left (laterBytes (bodiesOf d ns))) (none-follow (geo (a .g)) d (loop .s .number .0) (a .count - loop .j) (omega arith)) ∙ take-nil left in
+    let all : List ℕ = drop 11 (sector d (a .first .number .0)) ++ rest in
+    let left : ℕ = a .size - l .loop .at in
+    let none = none-follow (geo (a .g)) d (l .loop .s .number .0) (a .count - l .loop .j) (omega arith) in
+    let end = ap (λ (ns : List ℕ). take left (laterBytes (bodiesOf d ns))) none ∙ take-nil left in
     let whole : a .size - 0 ≡ a .size = omega arith in
-    let bytes = file-bytes (pre .0) (a .size) (pre .1) in
-    sym (ap (sets (loop .buffer) (loop .at)) end)
-    ∙ loop .inv .4
-    ∙ copied-on (c .before .before .before .before .copy-part .ensures) (omega arith) rest
-    ∙ ap (λ (k : ℕ). sets (a .buffer .now) 0 (take k (drop 11 (sector d (a .first .number .0)) ++ rest))) whole
+    let bytes = file-bytes (start .pre .0) (a .size) (start .pre .1) in
+    sym (ap (sets (l .loop .buffer) (l .loop .at)) end)
+    ∙ l .loop .inv .4
+    ∙ copied-on (at-first l .copy-part .ensures) (omega arith) rest
+    ∙ ap (λ (k : ℕ). sets (a .buffer .now) 0 (take k all)) whole
     ∙ ap (sets (a .buffer .now) 0) bytes
-    ∙ stored-front (a .buffer .now) (bytesIn (plain (fileBodies (a .g) (a .image .now) (a .first .number .0) (a .count)))) (omega (arith, sym (ap length bytes), length-take (a .size) (drop 11 (sector d (a .first .number .0)) ++ rest), pre .2))
+    ∙ stored-front (a .buffer .now) (bytesIn (plain (fileBodies (a .g) (a .image .now) (a .first .number .0) (a .count))))
+    (omega (arith, sym (ap length bytes), length-take (a .size) all, start .pre .2))
 
 pub copy-module-spec : {M : Type 1} → statement M
 copy-module-spec =

@@ -4,13 +4,19 @@ use mathlib.Core.Path.{_≡_, sym, _∙_}
 use native.Mathlib.Omega.{arith}
 use lib.ListN.{length}
 use borrow.Author.Needs.{needs}
-use Rattle.disc.specs.Laws.{image-full}
+use Rattle.geometry.specs.Laws.{image-full}
 use Rattle.format.specs.Geometry.{sector}
 use Rattle.format.specs.GeometryLaws.{sector-full}
-use Rattle.disc.specs.Meaning.{sectorsOf}
+use Rattle.geometry.specs.Meaning.{sectorsOf}
 use Rattle.reading.specs.SectorLaws.{filled-yes, filled-no}
 use Rattle.reading.proofs.filled_at.Statement.{statement}
 use Rattle.reading.proofs.filled_at.Tie as tie
+
+abbrev at-start : tie.After-min → tie.Start
+at-start c = c .before .before
+
+long : (c : tie.Start) → length (sector (sectorsOf (c .args .g) (c .args .image .now)) (c .args .s .number .0)) ≡ 256
+long c = sector-full (image-full (c .pre .0)) (c .args .s .number .0) (omega arith)
 
 sub-min : tie.Need-sub-min
 sub-min c = search needs
@@ -26,10 +32,11 @@ cast-if1 c = search needs
 
 returns : tie.Need-returns
 returns c =
-    let a = c .before .before .before .before .args in
-    let full = image-full (c .before .before .before .before .pre .0) in
-    let long : length (sector (sectorsOf (a .g) (a .image .now)) (a .s .number .0)) ≡ 256 = sector-full full (a .s .number .0) (omega arith) in
-    sym (filled-no _ (a .k) (a .left) (c .before .before .min .result) long (omega arith) (c .before .before .min .ensures) (λ e. c .if1 .taken (c .before .byte-in .ensures ∙ e)))
+    let read = c .before in
+    let sized = read .before in
+    let start = at-start sized in
+    sym (filled-no _ (start .args .k) (start .args .left) (sized .min .result) (long start) (start .pre .2) (sized .min .ensures)
+    (λ e. c .if1 .taken (read .byte-in .ensures ∙ e)))
 
 add-zero-from : tie.Need-add-zero-from
 add-zero-from c = search needs
@@ -42,10 +49,12 @@ zero-from-requires c κs = search needs
 
 returns-2 : tie.Need-returns-2
 returns-2 c =
-    let a = c .before .before .before .before .before .args in
-    let full = image-full (c .before .before .before .before .before .pre .0) in
-    let long : length (sector (sectorsOf (a .g) (a .image .now)) (a .s .number .0)) ≡ 256 = sector-full full (a .s .number .0) (omega arith) in
-    c .zero-from .ensures ∙ sym (filled-yes _ (a .k) (a .left) (c .before .before .before .min .result) long (omega arith) (c .before .before .before .min .ensures) (sym (c .before .before .byte-in .ensures) ∙ c .before .if1 .left))
+    let tested = c .before in
+    let sized = tested .before .before in
+    let start = at-start sized in
+    let same = sym (tested .before .byte-in .ensures) ∙ tested .if1 .left in
+    c .zero-from .ensures
+    ∙ sym (filled-yes _ (start .args .k) (start .args .left) (sized .min .result) (long start) (start .pre .2) (sized .min .ensures) same)
 
 pub filled-at-spec : {M : Type 1} → statement M
 filled-at-spec =

@@ -6,7 +6,8 @@ use native.Mathlib.Omega.{arith}
 use mathlib.Core.List.{List}
 use borrow.Author.Needs.{needs}
 use borrow.Author.Tests.{not-true, not-false}
-use Rattle.disc.specs.Meaning.{geo, sectorsOf, Lies}
+use Rattle.geometry.specs.Meaning.{geo, sectorsOf}
+use Rattle.disc.specs.Meaning.{Lies}
 use Rattle.reading.specs.Plain.{laterFilled}
 use Rattle.reading.specs.Meaning.{bodiesOf, bodiesAfter, Followed}
 use Rattle.reading.specs.FileLaws.{file-followed, followed-leads, followed-step, filled-step, filled-stop, none-follow}
@@ -23,6 +24,23 @@ Inv-loop image g count length left₀ s₀ j₀ left s j =
 abbrev μ-loop : tie.MeasureT-loop
 μ-loop image g count length left₀ s₀ j₀ left s j = count - j
 
+-- ---- places: the function's start; the head of a turn
+
+abbrev at-start : tie.At-loop Inv-loop μ-loop → tie.Start Inv-loop μ-loop
+at-start l = l .before .before .before
+
+abbrev at-turn : tie.After-next-of Inv-loop μ-loop → tie.At-loop Inv-loop μ-loop
+at-turn c = c .before .before
+
+-- the sectors that are left, told of all of them
+whole : (l : tie.At-loop Inv-loop μ-loop) → let a = at-start l .args in
+    laterFilled (l .loop .left) (bodiesAfter (a .g) (a .image .now) (l .loop .s .number .0) (a .count - l .loop .j))
+    ≡ laterFilled (a .length - 245) (bodiesAfter (a .g) (a .image .now) (a .first .number .0) (a .count - 1))
+whole l =
+    let a = at-start l .args in
+    l .loop .inv .2
+    ∙ ap (λ (k : ℕ). laterFilled k (bodiesAfter (a .g) (a .image .now) (a .first .number .0) (a .count - 1))) (l .before .saturating-sub .ensures)
+
 saturating-sub-requires : tie.Need-saturating-sub-requires Inv-loop μ-loop
 saturating-sub-requires c κs = search needs
 
@@ -33,21 +51,21 @@ loop-holds c =
 
 next-of-requires : tie.Need-next-of-requires Inv-loop μ-loop
 next-of-requires c κs =
-    let f = c .before .loop .inv .1 in
-    (c .before .before .before .before .pre .0 .on-image, c .before .loop .inv .3, followed-leads _ _ _ f (c .loop-test .taken))
+    let l = c .before in
+    (at-start l .pre .0 .on-image, l .loop .inv .3, followed-leads _ _ _ (l .loop .inv .1) (c .loop-test .taken))
 
 filled-at-requires : tie.Need-filled-at-requires Inv-loop μ-loop
-filled-at-requires c κs = (c .before .before .before .before .before .pre .0 .on-image, c .next-of .ensures .1, omega arith)
+filled-at-requires c κs = (at-start (at-turn c) .pre .0 .on-image, c .next-of .ensures .1, omega arith)
 
 returns : tie.Need-returns Inv-loop μ-loop
 returns c =
-    let loop = c .before .before .before .before .loop in
-    let next-of = c .before .before .next-of in
-    let a = c .before .before .before .before .before .before .before .args in
+    let next = c .before .before in
+    let l = at-turn next in
+    let to = next .next-of in
     let no = sym (c .before .filled-at .ensures) ∙ not-true _ (c .if1 .taken) in
-    sym (filled-stop (loop .s .number .0) (a .count) (loop .j) (loop .inv .1) (c .before .before .before .loop-test .taken) (next-of .result .number .0) (next-of .ensures .0) (loop .left) no)
-    ∙ loop .inv .2
-    ∙ ap (λ (k : ℕ). laterFilled k (bodiesAfter (a .g) (a .image .now) (a .first .number .0) (a .count - 1))) (c .before .before .before .before .before .saturating-sub .ensures)
+    sym (filled-stop (l .loop .s .number .0) (at-start l .args .count) (l .loop .j) (l .loop .inv .1) (next .before .loop-test .taken)
+    (to .result .number .0) (to .ensures .0) (l .loop .left) no)
+    ∙ whole l
 
 saturating-sub-requires-2 : tie.Need-saturating-sub-requires-2 Inv-loop μ-loop
 saturating-sub-requires-2 c κs = search needs
@@ -60,30 +78,32 @@ loop-less c = search needs
 
 loop-again : tie.Need-loop-again Inv-loop μ-loop
 loop-again c =
-    let loop = c .before .before .before .before .before .loop in
-    let next-of = c .before .before .before .next-of in
-    let a = c .before .before .before .before .before .before .before .before .args in
-    let f = loop .inv .1 in
-    let m : ℕ = next-of .result .number .0 in
-    let yes = sym (c .before .before .filled-at .ensures) ∙ not-false _ (c .before .if1 .left) in (
+    let tested = c .before in
+    let next = tested .before .before in
+    let l = at-turn next in
+    let a = at-start l .args in
+    let n : ℕ = l .loop .s .number .0 in
+    let m : ℕ = next .next-of .result .number .0 in
+    let f = l .loop .inv .1 in
+    let on = next .before .loop-test .taken in
+    let link = next .next-of .ensures .0 in
+    let yes = sym (tested .before .filled-at .ensures) ∙ not-false _ (tested .if1 .left) in (
       omega arith,
-      followed-step (loop .s .number .0) (a .count) (loop .j) f (c .before .before .before .before .loop-test .taken) m (next-of .ensures .0) (next-of .ensures .1 .on),
-      ap (λ (k : ℕ). laterFilled k (bodiesAfter (a .g) (a .image .now) m (a .count - (loop .j + 1)))) (c .saturating-sub2 .ensures)
-          ∙ filled-step (loop .s .number .0) (a .count) (loop .j) f (c .before .before .before .before .loop-test .taken) m (next-of .ensures .0) (loop .left) yes
-          ∙ loop .inv .2,
-      next-of .ensures .1,
+      followed-step n (a .count) (l .loop .j) f on m link (next .next-of .ensures .1 .on),
+      ap (λ (k : ℕ). laterFilled k (bodiesAfter (a .g) (a .image .now) m (a .count - (l .loop .j + 1)))) (c .saturating-sub2 .ensures)
+          ∙ filled-step n (a .count) (l .loop .j) f on m link (l .loop .left) yes
+          ∙ l .loop .inv .2,
+      next .next-of .ensures .1,
     )
 
 returns-2 : tie.Need-returns-2 Inv-loop μ-loop
 unfolding laterFilled
 returns-2 c =
-    let loop = c .before .loop in
-    let a = c .before .before .before .before .args in
+    let l = c .before in
+    let a = at-start l .args in
     let d = sectorsOf (a .g) (a .image .now) in
-    let end = none-follow (geo (a .g)) d (loop .s .number .0) (a .count - loop .j) (omega arith) in
-    sym (ap (λ (ns : List ℕ). laterFilled (loop .left) (bodiesOf d ns)) end)
-    ∙ loop .inv .2
-    ∙ ap (λ (k : ℕ). laterFilled k (bodiesAfter (a .g) (a .image .now) (a .first .number .0) (a .count - 1))) (c .before .before .saturating-sub .ensures)
+    let end = none-follow (geo (a .g)) d (l .loop .s .number .0) (a .count - l .loop .j) (omega arith) in
+    sym (ap (λ (ns : List ℕ). laterFilled (l .loop .left) (bodiesOf d ns)) end) ∙ whole l
 
 pub later-filled-spec : {M : Type 1} → statement M
 later-filled-spec =

@@ -1,10 +1,19 @@
 -- `reading::numbers_of` meets its contract.
 -- Assumes nothing.
-use lib.Seq.{getD-drop}
 use borrow.Author.Needs.{needs}
-use Rattle.reading.specs.Plain.{numbered}
+use Rattle.format.specs.Geometry.{sector}
+use Rattle.geometry.specs.Meaning.{sectorsOf}
+use Rattle.reading.specs.FileLaws.{numbers-read}
 use Rattle.reading.proofs.numbers_of.Statement.{statement}
 use Rattle.reading.proofs.numbers_of.Tie as tie
+
+-- ---- places: the function's start; where the first word is read
+
+abbrev at-start : tie.After-byte-of2 → tie.Start
+at-start c = c .before .before .before
+
+abbrev at-words : tie.After-saturating-sub → tie.After-word-of
+at-words c = c .before .before .before
 
 byte-of-requires : tie.Need-byte-of-requires
 byte-of-requires c κs = search needs
@@ -40,9 +49,14 @@ cast-t14 : tie.Need-cast-t14
 cast-t14 c = search needs
 
 returns : tie.Need-returns
-unfolding numbered
 returns c =
-    simp (getD-drop, c .numbers-ok .ensures, c .before .saturating-sub .ensures, c .before .before .word-of3 .ensures, c .before .before .before .word-of2 .ensures, c .before .before .before .before .word-of .ensures, c .before .before .before .before .before .byte-of2 .ensures, c .before .before .before .before .before .before .byte-of .ensures)
+    let sized = c .before in
+    let words = at-words sized in
+    let bytes = words .before in
+    let a = at-start bytes .args in
+    numbers-read (sector (sectorsOf (a .g) (a .image .now)) (a .n .0)) (bytes .before .byte-of .ensures) (bytes .byte-of2 .ensures)
+    (words .word-of .ensures) (sized .before .before .word-of2 .ensures) (sized .before .word-of3 .ensures)
+    (sized .saturating-sub .ensures) (c .numbers-ok .ensures)
 
 pub numbers-of-spec : {M : Type 1} → statement M
 numbers-of-spec =

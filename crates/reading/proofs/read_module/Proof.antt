@@ -9,7 +9,8 @@ use Prim.Native.Nat.{ℕ}
 use Rattle.format.specs.Refusals.{NOT-PLAIN, SHORT}
 use Rattle.format.specs.Modules.{plain}
 use Rattle.answers.specs.Laws.{refuses-is}
-use Rattle.reading.specs.Meaning.{headerOf, fileBodies, File}
+use Rattle.lists.specs.Lists.{front}
+use Rattle.reading.specs.Meaning.{headerOf, bytesIn, fileBodies, File}
 use Rattle.reading.specs.Answer.{readAnswer, doneWith}
 use Rattle.reading.specs.AnswerLaws.{refuses-answer, file-not-plain, file-short, file-read}
 use Rattle.reading.specs.declared.Header.{Header}
@@ -17,10 +18,16 @@ use Rattle.reading.specs.declared.Reading.{Reading}
 use Rattle.reading.proofs.read_module.Statement.{statement}
 use Rattle.reading.proofs.read_module.Tie as tie
 
--- ---- places: the start of the first sector is known; the header is
+-- ---- places: the function's start; where the header is known; where the module is copied
 
 abbrev at-start : tie.After-sector-of → tie.Start
 at-start c = c .before .before .before
+
+abbrev at-header : tie.After-struct-known2 → tie.After-plain-header
+at-header c = c .before .before .before
+
+abbrev at-copied : tie.After-struct-known3 → tie.After-copy-module
+at-copied c = c .before .before .before
 
 file : (c : tie.After-sector-of) → let a = at-start c .args in File (a .g) (a .image .now) (c .sector-of .result .number .0) (a .count)
 file c =
@@ -30,6 +37,10 @@ file c =
 header-is : (c : tie.After-plain-header)
     → let a = at-start (c .before) .args in c .plain-header .result ≡ headerOf (plain (fileBodies (a .g) (a .image .now) (a .first .0) (a .count)))
 header-is c = rw (c .before .sector-of .ensures .0) at (c .plain-header .ensures)
+
+front-is : (c : tie.After-copy-module) → let a = at-start (at-header (c .before .before .before) .before) .args in
+    c .copy-module .last .1 .1 .1 .1 .1 .0 ≡ front (bytesIn (plain (fileBodies (a .g) (a .image .now) (a .first .0) (a .count)))) (a .buffer .now)
+front-is c = rw (at-header (c .before .before .before) .before .sector-of .ensures .0) at (c .copy-module .ensures)
 
 sector-of-requires : tie.Need-sector-of-requires
 sector-of-requires c κs = search needs
@@ -56,16 +67,16 @@ refused-requires-2 c κs = search needs
 
 returns-2 : tie.Need-returns-2
 returns-2 c =
-    let plainly = c .before .before .before in
-    let known = plainly .before .before in
+    let sized = c .before .before in
+    let known = at-header sized in
     let buffer : List ℕ = at-start (known .before) .args .buffer .now in
     ap (λ (r : Reading). readAnswer r buffer) (c .refused2 .ensures)
     ∙ refuses-answer buffer _ 10
-    (refuses-is _ SHORT (file-short _ (known .plain-header .result) (header-is known) (not-false _ (plainly .if1 .left)) _ (c .before .if2 .taken)))
+    (refuses-is _ SHORT (file-short _ (known .plain-header .result) (header-is known) (not-false _ (sized .before .if1 .left)) _ (c .before .if2 .taken)))
 
 copy-module-requires : tie.Need-copy-module-requires
 copy-module-requires c κs =
-    let known = c .before .before .before .before .before in
+    let known = at-header (c .before .before) in
     (file (known .before), ap (λ (h : Header). h .length) (known .plain-header .ensures), omega arith, known .before .sector-of .ensures .1)
 
 cast-t14 : tie.Need-cast-t14
@@ -85,12 +96,12 @@ same-length c = search needs
 
 returns-3 : tie.Need-returns-3
 returns-3 c =
-    let copied = c .before .before .before .before .before .before in
-    let plainly = copied .before .before .before .before in
-    let known = plainly .before .before in
+    let copied = at-copied (c .before .before .before) in
+    let sized = copied .before .before .before in
+    let known = at-header sized in
     let buffer : List ℕ = at-start (known .before) .args .buffer .now in
-    ap (readAnswer (doneWith (known .plain-header .result))) (rw (known .before .sector-of .ensures .0) at (copied .copy-module .ensures))
-    ∙ file-read _ (known .plain-header .result) (header-is known) (not-false _ (plainly .if1 .left)) buffer (omega arith)
+    ap (readAnswer (doneWith (known .plain-header .result))) (front-is copied)
+    ∙ file-read _ (known .plain-header .result) (header-is known) (not-false _ (sized .before .if1 .left)) buffer (omega arith)
 
 pub read-module-spec : {M : Type 1} → statement M
 read-module-spec =

@@ -11,14 +11,28 @@ use Rattle.records.specs.Storing.{stored-three}
 use Rattle.records.proofs.put_record.Statement.{statement}
 use Rattle.records.proofs.put_record.Tie as tie
 
+-- ---- places: the function's start; where the first part is stored, and where the second is
+
+abbrev at-start : tie.After-copy-arg → tie.Start
+at-start c = c .before .before .before .before
+
+abbrev at-first : tie.After-copy-arg2 → tie.After-copy
+at-first c = c .before .before .before
+
+abbrev at-second : tie.After-slice-known3 → tie.After-copy2
+at-second c = c .before .before
+
+first-long : (c : tie.After-copy) → length (c .copy .last .0) ≡ length (at-start (c .before) .args .buffer .now)
+first-long c = ap length (c .copy .ensures) ∙ simp (length-sets, length-set)
+
 slice-write-buffer : tie.Need-slice-write-buffer
 slice-write-buffer c = search needs
 
-add-put : tie.Need-add-put
-add-put c = search needs
+add-copy : tie.Need-add-copy
+add-copy c = search needs
 
-put-requires : tie.Need-put-requires
-put-requires c κs = simp length-set (omega arith)
+copy-requires : tie.Need-copy-requires
+copy-requires c κs = simp length-set (omega arith)
 
 add-next : tie.Need-add-next
 add-next c = search needs
@@ -26,36 +40,36 @@ add-next c = search needs
 add-next-2 : tie.Need-add-next-2
 add-next-2 c = search needs
 
-put-requires-2 : tie.Need-put-requires-2
-put-requires-2 c κs =
-    let long : length (c .before .before .before .put .last .0) ≡ length (c .before .before .before .before .before .before .before .before .args .buffer .now) = ap length (c .before .before .before .put .ensures) ∙ simp (length-sets, length-set) in
-    omega arith
+copy-requires-2 : tie.Need-copy-requires-2
+copy-requires-2 c κs = let long = first-long (at-first c) in omega arith
 
 add-result : tie.Need-add-result
 add-result c = search needs
 
 same-length : tie.Need-same-length
 same-length c =
-    let long : length (c .before .before .before .before .before .before .put .last .0) ≡ length (c .before .before .before .before .before .before .before .before .before .before .before .args .buffer .now) = ap length (c .before .before .before .before .before .before .put .ensures) ∙ simp (length-sets, length-set) in
-    ap length (c .before .before .put2 .ensures) ∙ simp length-sets long
+    let second = at-second c in
+    ap length (second .copy2 .ensures) ∙ simp length-sets (first-long (at-first (second .before)))
 
 returns : tie.Need-returns
 returns c =
-    let a = c .before .before .before .before .before .before .before .before .before .before .before .args in
+    let second = at-second c in
+    let first = at-first (second .before) in
+    let a = at-start (first .before) .args in
     let next : ℕ = a .at + 1 + length (a .first .now) in
-    let both = c .before .before .put2 .ensures ∙ ap (λ (b : List ℕ). sets b next (a .second .now)) (c .before .before .before .before .before .before .put .ensures) in
-    stored-three (a .buffer .now) (a .at) (a .kind) (a .first .now) (a .second .now) both refl
+    stored-three (a .buffer .now) (a .at) (a .kind) (a .first .now) (a .second .now)
+    (second .copy2 .ensures ∙ ap (λ (b : List ℕ). sets b next (a .second .now)) (first .copy .ensures)) refl
 
 pub put-record-spec : {M : Type 1} → statement M
 put-record-spec =
     tie.close
     (tie.spec
     slice-write-buffer
-    add-put
-    put-requires
+    add-copy
+    copy-requires
     add-next
     add-next-2
-    put-requires-2
+    copy-requires-2
     add-result
     same-length
     returns)

@@ -4,8 +4,8 @@ use borrow.Author.Needs.{needs}
 use mathlib.Core.Path.{sym, _∙_}
 use Rattle.format.specs.Geometry.{Geometry, Disc}
 use Rattle.format.specs.Calls.{repairOn, afterRepair}
-use Rattle.disc.specs.Meaning.{kindOf}
-use Rattle.disc.specs.Laws.{Opened, opened, geometry-wrong}
+use Rattle.geometry.specs.Meaning.{kindOf}
+use Rattle.geometry.specs.Laws.{Opened, opened, geometry-wrong}
 use Rattle.answers.specs.Laws.{changed-size, changed-leaves}
 use Rattle.repairing.proofs.repair.Statement.{statement}
 use Rattle.repairing.proofs.repair.Tie as tie

@@ -3,8 +3,9 @@
 use borrow.Author.Needs.{needs}
 use Rattle.format.specs.Refusals.{UNSOUND}
 use Rattle.format.specs.CallLaws.{repair-refused, repair-done}
-use Rattle.disc.specs.Meaning.{geo, sectorsOf}
-use Rattle.disc.specs.Laws.{image-kept, inside}
+use Rattle.geometry.specs.Meaning.{geo, sectorsOf}
+use Rattle.geometry.specs.Laws.{image-kept}
+use Rattle.disc.specs.Laws.{inside}
 use Rattle.fsck.specs.Rules.{stands-broken, stands-good}
 use Rattle.answers.specs.Laws.{refuses-is, refuses-leaves, done-leaves}
 use Rattle.repairing.specs.Laws.{repaired}

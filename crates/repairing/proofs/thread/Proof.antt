@@ -1,11 +1,11 @@
--- `repairing::thread` meets its contract: from the first place of a track on, the chain is written.
+-- `repairing::thread` meets its contract: from the first position of a track on, the chain is written.
 -- Assumes nothing.
 use borrow.Author.Needs.{needs}
 use native.Mathlib.Omega.{arith}
 use Prim.Native.Nat.{ℕ, _+_, _*_, _-_, _≤_}
 use mathlib.Core.Path.{_≡_, refl, sym, ap, _∙_}
-use Rattle.disc.specs.Meaning.{geo}
-use Rattle.disc.specs.Laws.{image-kept}
+use Rattle.geometry.specs.Meaning.{geo}
+use Rattle.geometry.specs.Laws.{image-kept}
 use Rattle.repairing.specs.Meaning.{Threaded, thread-as, thread-start}
 use Rattle.repairing.proofs.thread.Statement.{statement}
 use Rattle.repairing.proofs.thread.Tie as tie
@@ -26,7 +26,10 @@ at-start l = l .before .before .before
 abbrev at-turn : tie.In-loop Inv-loop μ-loop → tie.At-loop Inv-loop μ-loop
 at-turn c = c .before
 
--- the places of the turn's track end where the chain begins
+abbrev at-track : tie.After-stops2 Inv-loop μ-loop → tie.In-loop Inv-loop μ-loop
+at-track c = c .before .before
+
+-- the turn's track ends where the chain begins
 track-ends : (c : tie.In-loop Inv-loop μ-loop) → let l = at-turn c in
     geo (at-start l .args .g) .perTrack * l .loop .track ≡ geo (at-start l .args .g) .perTrack * (l .loop .track - 1 + 1)
 track-ends c =
@@ -50,7 +53,7 @@ slice-aggregate-thread-track c = search needs
 
 thread-track-requires : tie.Need-thread-track-requires Inv-loop μ-loop
 thread-track-requires c κs =
-    let turn = c .before .before in
+    let turn = at-track c in
     let l = at-turn turn in (
       image-kept (at-start l .pre) (l .loop .inv .2 .kept),
       l .before .stops .ensures,
@@ -64,7 +67,7 @@ loop-less c = search needs
 loop-again : tie.Need-loop-again Inv-loop μ-loop
 loop-again c =
     let threaded = c .before .before in
-    let turn = threaded .before .before .before in
+    let turn = at-track (threaded .before) in
     let l = at-turn turn in
     let more = threaded .thread-track .ensures in
     (omega (arith, l .loop .inv .0), more .few, more .threads _ (thread-as (track-ends turn) (l .loop .inv .2)))

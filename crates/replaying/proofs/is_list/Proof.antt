@@ -6,9 +6,9 @@ use native.Mathlib.Omega.{arith}
 use Prim.Native.Nat.{_-_, _≤_}
 use mathlib.Core.Path.{_≡_, refl, sym, _∙_}
 use lib.ListN.{length, drop}
-use Rattle.format.specs.Effects.{isSome}
+use Rattle.lists.specs.Lists.{isSome}
 use Rattle.format.specs.Writes.{held}
-use Rattle.disc.specs.Meaning.{geo}
+use Rattle.geometry.specs.Meaning.{geo}
 use Rattle.replaying.specs.Laws.{record-bad, rest-on, end-is}
 use Rattle.replaying.proofs.is_list.Statement.{statement}
 use Rattle.replaying.proofs.is_list.Tie as tie

@@ -4,20 +4,20 @@ use borrow.Author.Needs.{needs}
 use borrow.Author.Tests.{not-true, not-false}
 use mathlib.Core.Path.{sym, _∙_}
 use Rattle.format.specs.Refusals.{BAD-LIST}
-use Rattle.disc.specs.Meaning.{geo, sectorsOf}
+use Rattle.geometry.specs.Meaning.{geo, sectorsOf}
 use Rattle.answers.specs.Laws.{refuses-is, refuses-leaves}
 use Rattle.replaying.specs.Laws.{replay-refused, replay-done}
 use Rattle.replaying.proofs.replay_on.Statement.{statement}
 use Rattle.replaying.proofs.replay_on.Tie as tie
 
+abbrev at-start : tie.After-is-list → tie.Start
+at-start c = c .before .before .before
+
 is-list-requires : tie.Need-is-list-requires
 is-list-requires c κs = search needs
 
-put-records-requires : tie.Need-put-records-requires
-put-records-requires c κs = (search needs, sym (c .before .before .is-list .ensures) ∙ not-false _ (c .before .if1 .left))
-
-abbrev at-start : tie.After-is-list → tie.Start
-at-start c = c .before .before .before
+replay-records-requires : tie.Need-replay-records-requires
+replay-records-requires c κs = (search needs, sym (c .before .before .is-list .ensures) ∙ not-false _ (c .before .if1 .left))
 
 returns : tie.Need-returns
 returns c =
@@ -35,8 +35,8 @@ returns-2 c =
     let good = put .before .before in
     let a = at-start (good .before) .args in
     let is = sym (good .before .is-list .ensures) ∙ not-false _ (good .if1 .left) in
-    record { answers = replay-done (geo (a .g)) (sectorsOf (a .g) (a .image .now)) (a .list .now) is; sectors-are = put .put-records .ensures }
+    record { answers = replay-done (geo (a .g)) (sectorsOf (a .g) (a .image .now)) (a .list .now) is; sectors-are = put .replay-records .ensures }
 
 pub replay-on-spec : {M : Type 1} → statement M
 replay-on-spec =
-    tie.close (tie.spec is-list-requires returns put-records-requires same-length returns-2)
+    tie.close (tie.spec is-list-requires returns replay-records-requires same-length returns-2)

@@ -7,9 +7,9 @@ use mathlib.Core.Path.{_≡_, sym, ap, ap₂, _∙_}
 use lib.Dec.{leb}
 use Rattle.format.specs.Geometry.{Geometry, Disc}
 use Rattle.format.specs.Effects.{growth}
-use Rattle.disc.specs.Meaning.{geo, sectorsOf}
+use Rattle.geometry.specs.Meaning.{geo, sectorsOf}
 use Rattle.directory.specs.Meaning.{foundOf}
-use Rattle.filing.specs.Writes.{growth-some, growth-none}
+use Rattle.saving_sectors.specs.Writes.{growth-some, growth-none}
 use Rattle.saving.proofs.has_room.Statement.{statement}
 use Rattle.saving.proofs.has_room.Tie as tie
 

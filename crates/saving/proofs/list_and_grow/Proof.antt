@@ -4,7 +4,7 @@ use borrow.Author.Needs.{needs}
 use native.Mathlib.Omega.{arith}
 use Rattle.format.specs.Modules.{Module}
 use Rattle.modules.specs.Meaning.{moduleOf}
-use Rattle.disc.specs.Laws.{image-kept}
+use Rattle.geometry.specs.Laws.{image-kept}
 use Rattle.saving.specs.Listing.{few-sectors, walks, grown-short, grown-listed}
 use Rattle.saving.proofs.list_and_grow.Statement.{statement}
 use Rattle.saving.proofs.list_and_grow.Tie as tie

@@ -5,7 +5,7 @@ use native.Mathlib.Omega.{arith}
 use Rattle.format.specs.Layout.{slotAt}
 use Rattle.format.specs.Modules.{Module}
 use Rattle.modules.specs.Meaning.{moduleOf}
-use Rattle.disc.specs.Laws.{image-kept}
+use Rattle.geometry.specs.Laws.{image-kept}
 use Rattle.saving.specs.Listing.{few-sectors, walks, open-short, open-listed}
 use Rattle.saving.proofs.list_in_slot.Statement.{statement}
 use Rattle.saving.proofs.list_in_slot.Tie as tie

@@ -2,7 +2,7 @@
 -- Assumes nothing.
 use borrow.Author.Needs.{needs}
 use mathlib.Core.Path.{sym, ap, _∙_, subst}
-use Rattle.disc.specs.Meaning.{sectorsOf}
+use Rattle.geometry.specs.Meaning.{sectorsOf}
 use Rattle.directory.specs.Meaning.{foundOf, Within}
 use Rattle.saving.proofs.put_save.Statement.{statement}
 use Rattle.saving.proofs.put_save.Tie as tie

@@ -4,7 +4,7 @@ use borrow.Author.Needs.{needs}
 use mathlib.Core.Path.{sym, _∙_}
 use Rattle.format.specs.Geometry.{Geometry, Disc}
 use Rattle.format.specs.Calls.{saveOn, afterSave}
-use Rattle.disc.specs.Laws.{opened, geometry-wrong}
+use Rattle.geometry.specs.Laws.{opened, geometry-wrong}
 use Rattle.answers.specs.Listed.{listed-size, listed-leaves}
 use Rattle.saving.specs.Meaning.{handed}
 use Rattle.saving.proofs.save.Statement.{statement}

@@ -5,7 +5,7 @@ use borrow.Author.Tests.{not-true, not-false, eqb-true}
 use mathlib.Core.Path.{sym, ap, _∙_}
 use Rattle.format.specs.Refusals.{TAKEN, ROOM}
 use Rattle.soundness.specs.WriteFacts.{savable}
-use Rattle.disc.specs.Meaning.{geo, sectorsOf}
+use Rattle.geometry.specs.Meaning.{geo, sectorsOf}
 use Rattle.modules.specs.Meaning.{moduleOf}
 use Rattle.directory.specs.Meaning.{foundOf}
 use Rattle.answers.specs.Laws.{refuses-is}

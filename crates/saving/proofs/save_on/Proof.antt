@@ -10,7 +10,7 @@ use mathlib.Core.List.{List}
 use Rattle.format.specs.Refusals.{NAME, MODULE, UNSOUND}
 use Rattle.format.specs.Names.{stored}
 use Rattle.format.specs.ModuleLaws.{allowed-true}
-use Rattle.disc.specs.Meaning.{geo, sectorsOf}
+use Rattle.geometry.specs.Meaning.{geo, sectorsOf}
 use Rattle.names.specs.declared.Parsed.{Parsed}
 use Rattle.names.specs.Answer.{parsed-none, parsed-some, parsed-legal}
 use Rattle.answers.specs.Laws.{refuses-is}

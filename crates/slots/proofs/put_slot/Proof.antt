@@ -10,7 +10,8 @@ use Rattle.format.specs.Geometry.{Disc, sector}
 use Rattle.format.specs.GeometryLaws.{length-cut, sector-again}
 use Rattle.format.specs.Layout.{inUsePlace, slotStart}
 use Rattle.format.specs.Effects.{withSlot}
-use Rattle.disc.specs.Meaning.{geo, sectorsOf, storedAt, form}
+use Rattle.geometry.specs.Meaning.{geo, sectorsOf, form}
+use Rattle.disc.specs.Meaning.{storedAt}
 use Rattle.slots.proofs.put_slot.Statement.{statement}
 use Rattle.slots.proofs.put_slot.Tie as tie
 

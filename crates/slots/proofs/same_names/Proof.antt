@@ -6,10 +6,10 @@ use mathlib.Core.Path.{_≡_, ap, ap₂, sym, _∙_}
 use Prim.Native.Nat.{ℕ, _+_, _-_}
 use mathlib.Core.List.{List}
 use lib.ListN.{length, take, drop}
-use Rattle.format.specs.Lists.{same}
+use Rattle.lists.specs.Lists.{same}
 use Rattle.format.specs.Geometry.{Disc, startOf, sector}
 use Rattle.format.specs.Layout.{slotStart, slotAt, nameOf}
-use Rattle.disc.specs.Meaning.{geo, sectorsOf, form}
+use Rattle.geometry.specs.Meaning.{geo, sectorsOf, form}
 use Rattle.slots.specs.Laws.{name-front, name-nine, part-cut}
 use Rattle.slots.proofs.same_names.Statement.{statement}
 use Rattle.slots.proofs.same_names.Tie as tie

@@ -4,10 +4,10 @@ use borrow.Author.Needs.{needs}
 use mathlib.Core.Path.{ap, _∙_}
 use Prim.Native.Nat.{ℕ}
 use lib.ListN.{take, drop, replicate}
-use Rattle.format.specs.Lists.{same}
+use Rattle.lists.specs.Lists.{same}
 use Rattle.format.specs.Geometry.{sector}
 use Rattle.format.specs.Layout.{emptySlot, freeSlot, slotAt}
-use Rattle.disc.specs.Meaning.{sectorsOf}
+use Rattle.geometry.specs.Meaning.{sectorsOf}
 use Rattle.slots.proofs.slot_free.Statement.{statement}
 use Rattle.slots.proofs.slot_free.Tie as tie
 

@@ -6,9 +6,9 @@ use mathlib.Core.Path.{_≡_, ap, ap₂, sym, _∙_}
 use Prim.Native.Nat.{ℕ}
 use mathlib.Core.List.{List}
 use lib.ListN.{length, take, drop}
-use Rattle.format.specs.Lists.{same}
+use Rattle.lists.specs.Lists.{same}
 use Rattle.format.specs.Geometry.{sector}
-use Rattle.disc.specs.Meaning.{sectorsOf}
+use Rattle.geometry.specs.Meaning.{sectorsOf}
 use Rattle.slots.specs.Laws.{name-front}
 use Rattle.slots.proofs.slot_named.Statement.{statement}
 use Rattle.slots.proofs.slot_named.Tie as tie

@@ -7,14 +7,28 @@ use mathlib.Core.Path.{ap, ap₂, _∙_}
 use mathlib.Core.List.{List, [], _∷_, _++_}
 use lib.ListN.{set}
 use lib.Seq.{sets}
-use Rattle.format.specs.Lists.{word}
+use Rattle.lists.specs.Lists.{word}
 use Rattle.format.specs.Geometry.{Disc, sector}
 use Rattle.format.specs.GeometryLaws.{length-cut, sector-again}
 use Rattle.format.specs.Layout.{freePlace, freeCountPlace}
 use Rattle.format.specs.Effects.{systemWrite}
-use Rattle.disc.specs.Meaning.{geo, sectorsOf, storedAt, form}
+use Rattle.geometry.specs.Meaning.{geo, sectorsOf, form}
+use Rattle.disc.specs.Meaning.{storedAt}
 use Rattle.system.proofs.put_system.Statement.{statement}
 use Rattle.system.proofs.put_system.Tie as tie
+
+-- the places that the answer goes back to
+abbrev at-counts : tie.After-slice-known3 → tie.After-put2
+at-counts c = c .before .before
+
+abbrev at-pointer : tie.After-put2 → tie.After-put
+at-pointer c = c .before .before .before .before .before
+
+abbrev at-place : tie.After-put → tie.After-place-of
+at-place c = c .before .before .before
+
+abbrev at-start : tie.After-place-of → tie.Start
+at-start c = c .before .before
 
 place-of-requires : tie.Need-place-of-requires
 place-of-requires c κs = search needs
@@ -49,13 +63,16 @@ same-length c = search needs
 returns : tie.Need-returns
 unfolding systemWrite
 returns c =
-    let start = c .before .before .before .before .before .before .before .before .before .before .before .before in
+    let counted = at-counts c in
+    let pointed = at-pointer counted in
+    let placed = at-place pointed in
+    let start = at-start placed in
     let a = start .args in
     let d : Disc = sectorsOf (a .g) (a .image .now) in
     let counts : List ℕ = word (a .free) ++ word (a .used) in
-    let place = c .before .before .before .before .before .before .before .before .before .before .place-of .ensures in
-    c .before .before .put2 .ensures
-    ∙ ap (λ (x : Disc). storedAt x 0 freeCountPlace counts) (c .before .before .before .before .before .before .before .put .ensures)
+    let place = placed .place-of .ensures in
+    counted .put2 .ensures
+    ∙ ap (λ (x : Disc). storedAt x 0 freeCountPlace counts) (pointed .put .ensures)
     ∙ sector-again d 0 freeCountPlace _ counts (omega (arith, length-cut (form (a .g)) (geo (a .g)) (a .image .now), start .pre .0 .valid .total))
     ∙ ap₂ (λ (s t : ℕ). set d 0 (sets (sets (sector d 0) freePlace (s ∷ t ∷ [])) freeCountPlace counts)) (place .1) (place .0)
 

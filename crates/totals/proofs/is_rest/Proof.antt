@@ -1,8 +1,8 @@
 -- `totals::is_rest` meets its contract.
 -- Assumes nothing.
+use Rattle.lists.specs.Lists.{isSome}
 use Rattle.totals.specs.Laws.{rest-on, record-bad, end-some}
 use Rattle.totals.specs.Totals.{creditsOf}
-use Rattle.format.specs.Effects.{isSome}
 use borrow.Author.Tests.{not-true, not-false}
 use borrow.Author.Needs.{needs}
 use native.Mathlib.Omega.{arith}

@@ -6,27 +6,31 @@ use Prim.Native.Nat.{ℕ, _+_}
 use native.Mathlib.Omega.{arith}
 use borrow.Author.Needs.{needs}
 use Rattle.format.specs.Geometry.{onDisc, startOf}
-use Rattle.disc.specs.declared.Geometry.{Geometry}
-use Rattle.disc.specs.Meaning.{kindOf, form, geo}
-use Rattle.disc.specs.Laws.{Opened, opened, geometry-wrong}
+use Rattle.geometry.specs.declared.Geometry.{Geometry}
+use Rattle.geometry.specs.Meaning.{kindOf, form, geo}
+use Rattle.geometry.specs.Laws.{Opened, opened, geometry-wrong}
 use Rattle.view.specs.Meaning.{viewStart}
 use Rattle.view.specs.Laws.{view-size, view-absent, view-done}
 use Rattle.view.specs.declared.ViewStart.the-variants.{At}
 use Rattle.view.proofs.start_of_view.Statement.{statement}
 use Rattle.view.proofs.start_of_view.Tie as tie
 
--- where the geometry is known
-abbrev at-start : tie.After-known-told → tie.Start
-at-start c = c .before .before .before .before .before
+-- ---- places: the function's start; where the geometry is asked for
+
+abbrev at-start : tie.After-geometry-of → tie.Start
+at-start c = c .before .before
+
+abbrev at-sized : tie.After-known-told → tie.After-geometry-of
+at-sized c = c .before .before .before
 
 abbrev geometry-at : tie.After-known-told → Geometry
 geometry-at c = c .before .g .given .0 .0
 
-opening : (c : tie.After-known-told) → Opened (kindOf (at-start c .args .stated)) (geometry-at c) (at-start c .args .image .now)
-opening c = opened _ _ _ (sym (c .before .before .before .geometry-of .ensures) ∙ c .before .g .given .1)
+opening : (c : tie.After-known-told) → let a = at-start (at-sized c) .args in Opened (kindOf (a .stated)) (geometry-at c) (a .image .now)
+opening c = opened _ _ _ (sym (at-sized c .geometry-of .ensures) ∙ c .before .g .given .1)
 
-on-disc-at : (c : tie.Then1)
-    → let known = c .before .before in onDisc (geo (geometry-at known)) (at-start known .args .track) (at-start known .args .sector) ≡ true
+on-disc-at : (c : tie.Then1) → let known = c .before .before in
+    let a = at-start (at-sized known) .args in onDisc (geo (geometry-at known)) (a .track) (a .sector) ≡ true
 on-disc-at c = sym (c .before .on-disc .ensures) ∙ c .if1 .taken
 
 geometry-of-requires : tie.Need-geometry-of-requires
@@ -54,7 +58,7 @@ returns : tie.Need-returns
 returns c =
     let known = c .before .before .before in
     let g = geometry-at known in
-    let a = at-start known .args in
+    let a = at-start (at-sized known) .args in
     let o = opening known in
     let start = c .sector-at .ensures .1 .at ∙ ap (startOf (form g) (geo g)) (c .sector-at .ensures .0) in
     rw (o .kind-is)
@@ -63,13 +67,14 @@ returns c =
 
 returns-2 : tie.Need-returns-2
 returns-2 c =
-    let e = sym (c .before .before .geometry-of .ensures) ∙ c .enum-told .given .1 in
-    ap viewStart (sym (view-size _ (c .before .before .before .before .args .image .now) _ _ (geometry-wrong _ _ e)))
+    let asked = c .before .before in
+    let wrong = geometry-wrong _ _ (sym (asked .geometry-of .ensures) ∙ c .enum-told .given .1) in
+    ap viewStart (sym (view-size _ (at-start asked .args .image .now) _ _ wrong))
 
 returns-3 : tie.Need-returns-3
 returns-3 c =
     let known = c .before .before in
-    let a = at-start known .args in
+    let a = at-start (at-sized known) .args in
     let off = sym (c .before .on-disc .ensures) ∙ c .if1 .left in
     let o = opening known in
     rw (o .kind-is) (ap viewStart (sym (view-absent _ (a .image .now) (a .track) (a .sector) _ (o .geometry-is) off)))

@@ -6,7 +6,8 @@ use native.Mathlib.Omega.{arith}
 use Prim.Native.Nat.{ℕ, _+_, _*_, _≤_}
 use mathlib.Core.Path.{refl, ap}
 use lib.ListN.{length}
-use Rattle.disc.specs.Meaning.{geo, sectorsOf, Reaches, led}
+use Rattle.geometry.specs.Meaning.{geo, sectorsOf}
+use Rattle.disc.specs.Meaning.{Reaches, led}
 use Rattle.disc.specs.Laws.{reached}
 use Rattle.records.specs.Storing.{Storing, storing-all, storing-step, storing-end, stored-as}
 use Rattle.format.specs.Writes.{recordOf}
@@ -23,6 +24,16 @@ Inv-loop image g count buffer₀ at step₀ left₀ place₀ buffer step left pl
 abbrev μ-loop : tie.MeasureT-loop
 μ-loop image g count buffer₀ at step₀ left₀ place₀ buffer step left place = left
 
+-- the places that the answers go back to
+abbrev at-start : tie.After-step-to Inv-loop μ-loop → tie.Start Inv-loop μ-loop
+at-start c = c .before .before .before
+
+abbrev at-turn : tie.After-step Inv-loop μ-loop → tie.In-loop Inv-loop μ-loop
+at-turn c = c .before .before
+
+abbrev at-step : tie.After-put-write-arg Inv-loop μ-loop → tie.After-step Inv-loop μ-loop
+at-step c = c .before .before
+
 step-to-requires : tie.Need-step-to-requires Inv-loop μ-loop
 step-to-requires c κs = search needs
 
@@ -37,26 +48,27 @@ same-length c = c .before .before .loop .inv .0 .long
 
 returns : tie.Need-returns Inv-loop μ-loop
 returns c =
-    let at-loop = c .before .before in
-    let start = at-loop .before .before .before .before in
-    let a = start .args in
+    let loop = c .before .before in
+    let a = at-start (loop .before) .args in
     let d = sectorsOf (a .g) (a .image .now) in
-    stored-as (ap (walked (geo (a .g)) d (a .count)) (at-loop .before .step-to .ensures .0))
-    (storing-end (at-loop .loop .inv .0) (walked-ended (geo (a .g)) d (at-loop .loop .left) (at-loop .loop .step) (c .match .keys2)))
+    stored-as (ap (walked (geo (a .g)) d (a .count)) (loop .before .step-to .ensures .0))
+    (storing-end (loop .loop .inv .0) (walked-ended (geo (a .g)) d (loop .loop .left) (loop .loop .step) (c .match .keys2)))
 
 put-write-requires : tie.Need-put-write-requires Inv-loop μ-loop
 put-write-requires c κs =
-    let at-loop = c .before .before .before .before .before in
-    let inv = at-loop .loop .inv in (
-      at-loop .before .before .before .before .pre .0,
-      reached _ (c .before .before .step .given .1) (inv .1),
-      omega (arith, inv .3, inv .0 .long, c .before .before .before .before .loop-test .taken),
+    let told = at-step c in
+    let turn = at-turn told in
+    let inv = turn .before .loop .inv in (
+      at-start (turn .before .before) .pre .0,
+      reached _ (told .step .given .1) (inv .1),
+      omega (arith, inv .3, inv .0 .long, turn .loop-test .taken),
     )
 
 step-from-requires : tie.Need-step-from-requires Inv-loop μ-loop
 step-from-requires c κs =
-    let at-loop = c .before .before .before .before .before .before .before .before in
-    (at-loop .before .before .before .before .pre .0, reached _ (c .before .before .before .before .before .step .given .1) (at-loop .loop .inv .1))
+    let told = at-step (c .before .before .before) in
+    let loop = at-turn told .before in
+    (at-start (loop .before) .pre .0, reached _ (told .step .given .1) (loop .loop .inv .1))
 
 sub-left : tie.Need-sub-left Inv-loop μ-loop
 sub-left c = search needs
@@ -67,19 +79,19 @@ loop-less c = search needs
 loop-again : tie.Need-loop-again Inv-loop μ-loop
 loop-again c =
     let wrote = c .before .before .before in
-    let told = wrote .before .before .before in
-    let tested = told .before .before in
-    let at-loop = tested .before in
-    let inv = at-loop .loop .inv in
-    let a = at-loop .before .before .before .before .args in
+    let told = at-step (wrote .before) in
+    let turn = at-turn told in
+    let loop = turn .before in
+    let inv = loop .loop .inv in
+    let a = at-start (loop .before) .args in
     let n : ℕ = told .step .given .0 .0 .number .0 in
     let G = geo (a .g) in
     let d = sectorsOf (a .g) (a .image .now) in
-    let next = walked-go G d (at-loop .loop .left) n (tested .loop-test .taken) (ap led (told .step .given .1)) (c .step-from .ensures .0) in (
+    let next = walked-go G d (loop .loop .left) n (turn .loop-test .taken) (ap led (told .step .given .1)) (c .step-from .ensures .0) in (
       storing-step (recordOf G (standing d n)) _ (inv .0) next (wrote .put-write .ensures .0),
       c .step-from .ensures .1,
       omega arith,
-      omega (arith, inv .3, wrote .put-write .ensures .1, tested .loop-test .taken),
+      omega (arith, inv .3, wrote .put-write .ensures .1, turn .loop-test .taken),
     )
 
 same-length-2 : tie.Need-same-length-2 Inv-loop μ-loop
@@ -87,12 +99,11 @@ same-length-2 c = c .before .loop .inv .0 .long
 
 returns-2 : tie.Need-returns-2 Inv-loop μ-loop
 returns-2 c =
-    let at-loop = c .before in
-    let start = at-loop .before .before .before .before in
-    let a = start .args in
+    let loop = c .before in
+    let a = at-start (loop .before) .args in
     let d = sectorsOf (a .g) (a .image .now) in
-    stored-as (ap (walked (geo (a .g)) d (a .count)) (at-loop .before .step-to .ensures .0))
-    (storing-end (at-loop .loop .inv .0) (walked-none (geo (a .g)) d (led (at-loop .loop .step)) (at-loop .loop .left) (omega arith)))
+    stored-as (ap (walked (geo (a .g)) d (a .count)) (loop .before .step-to .ensures .0))
+    (storing-end (loop .loop .inv .0) (walked-none (geo (a .g)) d (led (loop .loop .step)) (loop .loop .left) (omega arith)))
 
 pub put-chain-spec : {M : Type 1} → statement M
 put-chain-spec =

@@ -3,11 +3,24 @@
 use borrow.Author.Needs.{needs}
 use mathlib.Core.Path.{refl}
 use mathlib.Core.List.{[], _∷_}
-use Rattle.disc.specs.Meaning.{geo, sectorsOf}
+use Rattle.geometry.specs.Meaning.{geo, sectorsOf}
 use Rattle.records.specs.Storing.{storing-all}
 use Rattle.writes.specs.Laws.{copied-step, copied-end}
 use Rattle.writes.proofs.put_deleted.Statement.{statement}
 use Rattle.writes.proofs.put_deleted.Tie as tie
+
+-- the places that the answers go back to
+abbrev at-start : tie.After-put-numbered → tie.Start
+at-start c = c .before .before .before .before
+
+abbrev at-one : tie.After-put-numbered2 → tie.After-put-numbered
+at-one c = c .before .before .before .before
+
+abbrev at-two : tie.After-put-numbered3 → tie.After-put-numbered2
+at-two c = c .before .before .before .before
+
+abbrev at-three : tie.After-end-list → tie.After-put-numbered3
+at-three c = c .before .before .before .before
 
 put-numbered-requires : tie.Need-put-numbered-requires
 put-numbered-requires c κs = search needs
@@ -26,13 +39,13 @@ same-length c = search needs
 
 returns : tie.Need-returns
 returns c =
-    let third = c .before .before .before .before .before .before in
-    let second = third .before .before .before .before in
-    let first = second .before .before .before .before in
-    let a = first .before .before .before .before .args in
+    let end = c .before .before .end-list .ensures in
+    let third = at-three (c .before .before) in
+    let second = at-two third in
+    let first = at-one second in
+    let a = at-start first .args in
     let G = geo (a .g) in
     let d = sectorsOf (a .g) (a .image .now) in
-    let end = c .before .before .end-list .ensures in
     let one = copied-step G d (a .home .0) (a .last .0 ∷ 0 ∷ []) (storing-all _ 0 refl) (first .put-numbered .ensures .0) in
     let two = copied-step G d (a .last .0) (0 ∷ []) one (second .put-numbered2 .ensures .0) in
     let three = copied-step G d 0 [] two (third .put-numbered3 .ensures .0) in

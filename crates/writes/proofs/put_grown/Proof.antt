@@ -2,11 +2,24 @@
 -- Assumes nothing.
 use borrow.Author.Needs.{needs}
 use mathlib.Core.List.{[], _∷_}
-use Rattle.disc.specs.Meaning.{geo, sectorsOf}
+use Rattle.geometry.specs.Meaning.{geo, sectorsOf}
 use Rattle.writes.specs.Meaning.{frontOf}
 use Rattle.writes.specs.Laws.{copied-step, copied-end, front-then}
 use Rattle.writes.proofs.put_grown.Statement.{statement}
 use Rattle.writes.proofs.put_grown.Tie as tie
+
+-- the places that the answers go back to
+abbrev at-start : tie.After-put-front → tie.Start
+at-start c = c .before .before .before .before
+
+abbrev at-front : tie.After-put-numbered → tie.After-put-front
+at-front c = c .before .before .before .before
+
+abbrev at-new : tie.After-put-numbered2 → tie.After-put-numbered
+at-new c = c .before .before .before .before
+
+abbrev at-last : tie.After-end-list → tie.After-put-numbered2
+at-last c = c .before .before .before .before
 
 put-front-requires : tie.Need-put-front-requires
 put-front-requires c κs = search needs
@@ -25,13 +38,13 @@ same-length c = search needs
 
 returns : tie.Need-returns
 returns c =
-    let second = c .before .before .before .before .before .before in
-    let first = second .before .before .before .before in
-    let front = first .before .before .before .before in
-    let a = front .before .before .before .before .args in
+    let end = c .before .before .end-list .ensures in
+    let second = at-last (c .before .before) in
+    let first = at-new second in
+    let front = at-front first in
+    let a = at-start front .args in
     let G = geo (a .g) in
     let d = sectorsOf (a .g) (a .image .now) in
-    let end = c .before .before .end-list .ensures in
     let begun = front-then G d (frontOf (a .g) (a .image .now) (a .first) (a .count)) (a .new .0 ∷ a .last .0 ∷ []) (front .put-front .ensures .0) in
     let one = copied-step G d (a .new .0) (a .last .0 ∷ []) begun (first .put-numbered .ensures .0) in
     let two = copied-step G d (a .last .0) [] one (second .put-numbered2 .ensures .0) in

@@ -3,11 +3,18 @@
 use borrow.Author.Needs.{needs}
 use mathlib.Core.Path.{refl}
 use mathlib.Core.List.{[]}
-use Rattle.disc.specs.Meaning.{geo, sectorsOf}
+use Rattle.geometry.specs.Meaning.{geo, sectorsOf}
 use Rattle.records.specs.Storing.{storing-all}
 use Rattle.writes.specs.Laws.{copied-step, copied-end}
 use Rattle.writes.proofs.put_one.Statement.{statement}
 use Rattle.writes.proofs.put_one.Tie as tie
+
+-- the places that the answers go back to
+abbrev at-start : tie.After-put-numbered → tie.Start
+at-start c = c .before .before .before .before
+
+abbrev at-one : tie.After-end-list → tie.After-put-numbered
+at-one c = c .before .before .before .before
 
 put-numbered-requires : tie.Need-put-numbered-requires
 put-numbered-requires c κs = search needs
@@ -20,11 +27,11 @@ same-length c = search needs
 
 returns : tie.Need-returns
 returns c =
-    let first = c .before .before .before .before .before .before in
-    let a = first .before .before .before .before .args in
+    let end = c .before .before .end-list .ensures in
+    let first = at-one (c .before .before) in
+    let a = at-start first .args in
     let G = geo (a .g) in
     let d = sectorsOf (a .g) (a .image .now) in
-    let end = c .before .before .end-list .ensures in
     let one = copied-step G d (a .n .0) [] (storing-all _ 0 refl) (first .put-numbered .ensures .0) in
     record { done = end .0; stored = copied-end G d one (end .1) }
 

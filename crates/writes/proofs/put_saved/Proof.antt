@@ -2,11 +2,21 @@
 -- Assumes nothing.
 use borrow.Author.Needs.{needs}
 use mathlib.Core.List.{[], _∷_}
-use Rattle.disc.specs.Meaning.{geo, sectorsOf}
+use Rattle.geometry.specs.Meaning.{geo, sectorsOf}
 use Rattle.writes.specs.Meaning.{frontOf}
 use Rattle.writes.specs.Laws.{copied-step, copied-end, front-then}
 use Rattle.writes.proofs.put_saved.Statement.{statement}
 use Rattle.writes.proofs.put_saved.Tie as tie
+
+-- the places that the answers go back to
+abbrev at-start : tie.After-put-front → tie.Start
+at-start c = c .before .before .before .before
+
+abbrev at-front : tie.After-put-numbered → tie.After-put-front
+at-front c = c .before .before .before .before
+
+abbrev at-home : tie.After-end-list → tie.After-put-numbered
+at-home c = c .before .before .before .before
 
 put-front-requires : tie.Need-put-front-requires
 put-front-requires c κs = search needs
@@ -22,12 +32,12 @@ same-length c = search needs
 
 returns : tie.Need-returns
 returns c =
-    let last = c .before .before .before .before .before .before in
-    let front = last .before .before .before .before in
-    let a = front .before .before .before .before .args in
+    let end = c .before .before .end-list .ensures in
+    let last = at-home (c .before .before) in
+    let front = at-front last in
+    let a = at-start front .args in
     let G = geo (a .g) in
     let d = sectorsOf (a .g) (a .image .now) in
-    let end = c .before .before .end-list .ensures in
     let begun = front-then G d (frontOf (a .g) (a .image .now) (a .first) (a .count)) (a .home .0 ∷ []) (front .put-front .ensures .0) in
     let one = copied-step G d (a .home .0) [] begun (last .put-numbered .ensures .0) in
     record { done = end .0; stored = copied-end G d one (end .1) }

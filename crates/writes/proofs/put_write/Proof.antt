@@ -3,11 +3,18 @@
 use borrow.Author.Needs.{needs}
 use Prim.Native.Nat.{ℕ, _+_}
 use mathlib.Core.Path.{refl, ap, _∙_}
-use Rattle.disc.specs.Meaning.{geo, sectorsOf}
+use Rattle.geometry.specs.Meaning.{geo, sectorsOf}
 use Rattle.records.specs.Storing.{stored-as}
 use Rattle.writes.specs.Laws.{whole-sector, record-long, record-of}
 use Rattle.writes.proofs.put_write.Statement.{statement}
 use Rattle.writes.proofs.put_write.Tie as tie
+
+-- the places that the answers go back to
+abbrev at-start : tie.After-place-of → tie.Start
+at-start c = c .before .before .before .before
+
+abbrev at-place : tie.After-put-record → tie.After-place-of
+at-place c = c .before .before .before .before
 
 add-end : tie.Need-add-end
 add-end c = search needs
@@ -35,14 +42,14 @@ same-length c = search needs
 
 returns : tie.Need-returns
 returns c =
-    let placed = c .before .before .before .before .before .before in
-    let start = placed .before .before .before .before in
+    let put = c .before .before in
+    let place = at-place put .place-of .ensures in
+    let start = at-start (at-place put) in
     let a = start .args in
-    let n : ℕ = a .s .number .0 in
+    let d = sectorsOf (a .g) (a .image .now) in
     let bytes = whole-sector (start .pre .0) (a .s) (start .pre .1) (a .s .start + 256) refl in
-    let is = record-of (geo (a .g)) (sectorsOf (a .g) (a .image .now)) n (placed .place-of .ensures .0) (placed .place-of .ensures .1) bytes in
-    let stored = stored-as is (c .before .before .put-record .ensures) in
-    (stored, stored .place ∙ ap (λ (k : ℕ). a .at + k) (record-long (start .pre .0) n (start .pre .1 .on)))
+    let stored = stored-as (record-of (geo (a .g)) d (a .s .number .0) (place .0) (place .1) bytes) (put .put-record .ensures) in
+    (stored, stored .place ∙ ap (λ (k : ℕ). a .at + k) (record-long (start .pre .0) (a .s .number .0) (start .pre .1 .on)))
 
 pub put-write-spec : {M : Type 1} → statement M
 put-write-spec =
