@@ -18,6 +18,7 @@ mod refusals;
 mod repair;
 mod replays;
 mod runs;
+mod scripted;
 mod sectors;
 mod totals;
 mod trace;

@@ -27,10 +27,15 @@ pub fn bytes(hex: &str) -> Vec<u8> {
     if hex == "-" {
         return Vec::new();
     }
-    (0..hex.len())
-        .step_by(2)
-        .map(|at| u8::from_str_radix(&hex[at..at + 2], 16).expect("hex"))
-        .collect()
+    hex.split('.').flat_map(part).collect()
+}
+
+/// Bytes of two digits each, or one byte and how often it stands.
+fn part(hex: &str) -> Vec<u8> {
+    let (digits, times) = hex.split_once('*').unwrap_or((hex, "1"));
+    let byte = |at: usize| u8::from_str_radix(&digits[at..at + 2], 16).expect("hex");
+    let bytes: Vec<u8> = (0..digits.len()).step_by(2).map(byte).collect();
+    bytes.repeat(number(times))
 }
 
 pub fn number<T: std::str::FromStr>(field: &str) -> T {

@@ -48,55 +48,81 @@ fn trace_disc(request: &Discs, random: &mut Random, out: &mut impl Write) -> io:
     match request.mode {
         Mode::Sound => {
             let image = sound_disc(random, max_tracks, sectors, arrangement);
-            Run::start(image, request, out)?.any_steps(random)
+            Run::start(image, sectors, arrangement, out)?.any_steps(random, request)
         }
         Mode::Damaged => {
             let image = damaged_disc(random, max_tracks, sectors, arrangement);
-            print_image(&image, request, out)
+            print_image(&image, sectors, arrangement, out)
         }
         Mode::Refused => {
             let image = damaged_disc(random, max_tracks, sectors, arrangement);
-            Run::start(image, request, out)?.any_steps(random)
+            Run::start(image, sectors, arrangement, out)?.any_steps(random, request)
         }
         Mode::Repaired => {
             let image = repair_disc(random, max_tracks, sectors, arrangement);
-            Run::start(image, request, out)?.whole(Command::Repair)
+            Run::start(image, sectors, arrangement, out)?.whole(Command::Repair)
         }
         Mode::Cancels => {
             let (image, run) = cancels_run(random, max_tracks, sectors, arrangement);
-            Run::start(image, request, out)?.cancel(run)
+            Run::start(image, sectors, arrangement, out)?.cancel(run)
         }
     }
 }
 
 /// A run as it is printed, step by step.
-struct Run<'a, W> {
+pub struct Run<'a, W> {
+    start: Vec<u8>,
     image: Vec<u8>,
-    request: &'a Discs,
+    sectors: u32,
+    arrangement: u32,
     history: History,
+    /// The image before the last save, and how many bytes that was handed.
+    saved: Option<(Vec<u8>, usize)>,
     out: &'a mut W,
 }
 
 impl<'a, W: Write> Run<'a, W> {
-    fn start(image: Vec<u8>, request: &'a Discs, out: &'a mut W) -> io::Result<Run<'a, W>> {
-        print_image(&image, request, out)?;
-        let history = History::start(&image, request.sectors, request.arrangement);
+    pub fn start(
+        image: Vec<u8>,
+        sectors: u32,
+        arrangement: u32,
+        out: &'a mut W,
+    ) -> io::Result<Run<'a, W>> {
+        print_image(&image, sectors, arrangement, out)?;
+        let history = History::start(&image, sectors, arrangement);
         print_moment(&image, history.book(), out)?;
         Ok(Run {
+            start: image.clone(),
             image,
-            request,
+            sectors,
+            arrangement,
             history,
+            saved: None,
             out,
         })
     }
 
     /// The image is again the one that the run started with.
-    fn again(&mut self, start: Vec<u8>) -> io::Result<()> {
-        let (sectors, arrangement) = (self.request.sectors, self.request.arrangement);
-        self.history = History::start(&start, sectors, arrangement);
-        self.image = start;
+    pub fn again(&mut self) -> io::Result<()> {
+        self.image = self.start.clone();
+        self.history = History::start(&self.image, self.sectors, self.arrangement);
         writeln!(self.out, "again")?;
         print_moment(&self.image, self.history.book(), self.out)
+    }
+
+    /// The exceptions after the last save and the delete of its file, if there are any.
+    pub fn excepted(&mut self) -> io::Result<()> {
+        let saved = self.saved.as_ref();
+        let places = saved
+            .and_then(|(before, length)| excepted(before, self.sectors, self.arrangement, *length));
+        match places {
+            Some(places) => print_excepted(&places, self.out),
+            None => Ok(()),
+        }
+    }
+
+    pub fn note(&mut self, line: &str) -> io::Result<()> {
+        writeln!(self.out, "{line}")
     }
 
     /// Runs a command that is not cut.
@@ -105,20 +131,11 @@ impl<'a, W: Write> Run<'a, W> {
     }
 
     fn cancel(&mut self, run: CancelsRun) -> io::Result<()> {
-        let (sectors, arrangement) = (self.request.sectors, self.request.arrangement);
-        let start = self.image.clone();
         match run {
-            CancelsRun::SaveAndDelete {
-                save,
-                length,
-                delete,
-            } => {
+            CancelsRun::SaveAndDelete { save, delete, .. } => {
                 self.whole(save)?;
                 self.whole(delete)?;
-                match excepted(&start, sectors, arrangement, length) {
-                    Some(places) => print_excepted(&places, self.out),
-                    None => Ok(()),
-                }
+                self.excepted()
             }
             CancelsRun::Renames {
                 a_to_b,
@@ -127,16 +144,16 @@ impl<'a, W: Write> Run<'a, W> {
             } => {
                 self.whole(a_to_b)?;
                 self.whole(b_to_c)?;
-                self.again(start)?;
+                self.again()?;
                 self.whole(a_to_c)
             }
         }
     }
 
-    fn any_steps(&mut self, random: &mut Random) -> io::Result<()> {
-        let (sectors, arrangement) = (self.request.sectors, self.request.arrangement);
-        let mut replays = Replays::one_in(self.request.replays);
-        let mut cuts = Cuts::one_in(self.request.cuts);
+    fn any_steps(&mut self, random: &mut Random, request: &Discs) -> io::Result<()> {
+        let (sectors, arrangement) = (self.sectors, self.arrangement);
+        let mut replays = Replays::one_in(request.replays);
+        let mut cuts = Cuts::one_in(request.cuts);
         for _ in 0..random.between(1, MOST_COMMANDS) {
             let step = cuts.step(random, &mut replays, &self.image, sectors, arrangement);
             let answer = self.step(&step)?;
@@ -146,9 +163,12 @@ impl<'a, W: Write> Run<'a, W> {
         Ok(())
     }
 
-    fn step(&mut self, step: &Step) -> io::Result<Answer> {
-        let (sectors, arrangement) = (self.request.sectors, self.request.arrangement);
+    pub fn step(&mut self, step: &Step) -> io::Result<Answer> {
+        let (sectors, arrangement) = (self.sectors, self.arrangement);
         let before = by_number(&self.image, sectors, arrangement);
+        if let Command::Save { sheet, .. } = &step.command {
+            self.saved = Some((self.image.clone(), sheet.len()));
+        }
         let answer = step.run(&mut self.image, sectors, arrangement);
         let (left, right) = (arguments(&step.command), answers(&answer));
         writeln!(self.out, "{left} = {right}")?;
@@ -165,8 +185,12 @@ impl<'a, W: Write> Run<'a, W> {
     }
 }
 
-fn print_image(image: &[u8], request: &Discs, out: &mut impl Write) -> io::Result<()> {
-    let (sectors, arrangement) = (request.sectors, request.arrangement);
+fn print_image(
+    image: &[u8],
+    sectors: u32,
+    arrangement: u32,
+    out: &mut impl Write,
+) -> io::Result<()> {
     let checked = reference::check(image, sectors, arrangement);
     writeln!(out, "image {sectors} {arrangement} {}", hex(image))?;
     writeln!(out, "check {} {}", checked.number, checked.rule)

@@ -7,6 +7,7 @@
 //! trace repaired SEED COUNT MAX_TRACKS   one repair each of images of all kinds
 //! trace cancels SEED COUNT MAX_TRACKS    runs whose calls cancel or come to one
 //! trace totals SEED COUNT                runs of weekly totals
+//! trace scripted                         the runs of a script, from standard input
 //! ```
 //!
 //! In front of the first five may stand, in any order, the two numbers stated with
@@ -18,8 +19,10 @@
 //! With other numbers stated, or 9 and 1, the images are plain, of nine sectors if
 //! `--sectors` is 9 and else of ten, and every call is refused with 1.
 //!
-//! Fields are parted by one space. HEX is two digits a byte, upper case, and
-//! `-` for no bytes; every other field is decimal. A run begins with
+//! Fields are parted by one space. HEX is two digits a byte, upper case, and `-` for
+//! no bytes; a byte that stands eight times or more in a row is written once, with
+//! how often, and dots part that from what stands beside it: `0102.00*252.FF`. Every
+//! other field is decimal. A run begins with
 //!
 //! ```text
 //! image SECTORS ARRANGEMENT HEX    the run's two numbers; all bytes of its
@@ -113,19 +116,28 @@
 //! ```
 //!
 //! The last line of all is `end COUNT`.
+//!
+//! A script for `scripted` is a trace of which the answers may be left out: lines
+//! `image`, or `table`; commands as far as the `=`; `cut MADE`, `again`, `excepted`,
+//! `reordered` and `add SHEET`. It may also have lines that begin with `#`, which are
+//! printed as they stand. So a trace is a script, and gives itself, but that each
+//! image has its `moment` line.
 
 mod discs;
+mod scripted;
 mod text;
 mod totals;
 
 use discs::{trace_discs, Discs, Mode};
-use std::io::{self, BufWriter, Write};
+use scripted::trace_script;
+use std::io::{self, BufWriter, Read, Write};
 use std::process::ExitCode;
 use totals::trace_totals;
 
 const USAGE: &str = "usage: trace [--sectors N] [--arrangement N] [--replays N] [--cuts N]
              [damaged|refused|repaired|cancels] SEED COUNT MAX_TRACKS
-       trace totals SEED COUNT";
+       trace totals SEED COUNT
+       trace scripted < SCRIPT";
 /// Stated unless the options say otherwise.
 const SECTORS: u32 = 10;
 const ARRANGEMENT: u32 = 0;
@@ -135,6 +147,7 @@ const NO_CUTS: usize = 0;
 enum Request {
     Discs(Discs),
     Totals { seed: u64, count: usize },
+    Scripted,
 }
 
 fn main() -> ExitCode {
@@ -150,6 +163,7 @@ fn main() -> ExitCode {
     let traced = match request {
         Request::Discs(discs) => trace_discs(&discs, &mut out),
         Request::Totals { seed, count } => trace_totals(seed, count, &mut out),
+        Request::Scripted => read_script().and_then(|script| trace_script(&script, &mut out)),
     };
     match traced.and_then(|()| out.flush()) {
         Ok(()) => ExitCode::SUCCESS,
@@ -160,8 +174,15 @@ fn main() -> ExitCode {
     }
 }
 
+fn read_script() -> io::Result<String> {
+    let mut script = String::new();
+    io::stdin().read_to_string(&mut script)?;
+    Ok(script)
+}
+
 fn parse(arguments: &[String]) -> Option<Request> {
     match arguments {
+        [form] if form == "scripted" => Some(Request::Scripted),
         [form, seed, count] if form == "totals" => Some(Request::Totals {
             seed: seed.parse().ok()?,
             count: count.parse().ok()?,

@@ -20,11 +20,13 @@ pub fn trace_totals(seed: u64, count: usize, out: &mut impl Write) -> io::Result
             Some(run) => run.reordered(&mut random),
             None => fresh_totals_run(&mut random),
         };
-        print_table(&run.totals, out)?;
+        let mut printed = Totals::start(&run.totals, out)?;
         if reordered {
-            writeln!(out, "reordered")?;
+            printed.reordered()?;
         }
-        run_totals(&run, out)?;
+        for sheet in &run.sheets {
+            printed.add(sheet)?;
+        }
         before = Some(run);
     }
     writeln!(out, "end {count}")
@@ -39,6 +41,45 @@ fn fresh_totals_run(random: &mut Random) -> TotalsRun {
     totals_run(random, MOST_SHEETS, most_records)
 }
 
+/// A run as it is printed, sheet by sheet.
+pub struct Totals<'a, W> {
+    totals: Vec<u32>,
+    book: TotalsBook,
+    out: &'a mut W,
+}
+
+impl<'a, W: Write> Totals<'a, W> {
+    pub fn start(totals: &[u32], out: &'a mut W) -> io::Result<Totals<'a, W>> {
+        print_table(totals, out)?;
+        Ok(Totals {
+            totals: totals.to_vec(),
+            book: TotalsBook::start(totals),
+            out,
+        })
+    }
+
+    /// The run has the table and the sheets of the run before.
+    pub fn reordered(&mut self) -> io::Result<()> {
+        writeln!(self.out, "reordered")
+    }
+
+    pub fn note(&mut self, line: &str) -> io::Result<()> {
+        writeln!(self.out, "{line}")
+    }
+
+    pub fn add(&mut self, sheet: &[u8]) -> io::Result<()> {
+        let before = self.totals.clone();
+        let number = reference::add_sheet(&mut self.totals, sheet);
+        writeln!(self.out, "add {} = {number}", hex(sheet))?;
+        let pairs = before.iter().zip(&self.totals).enumerate();
+        for (at, (_, now)) in pairs.filter(|(_, (old, now))| old != now) {
+            writeln!(self.out, "total {} {now}", at + 1)?;
+        }
+        self.book.record(sheet, number == 0);
+        writeln!(self.out, "growth {}", self.book.growth())
+    }
+}
+
 fn print_table(totals: &[u32], out: &mut impl Write) -> io::Result<()> {
     write!(out, "table {}", totals.len())?;
     let mut left = totals;
@@ -48,21 +89,4 @@ fn print_table(totals: &[u32], out: &mut impl Write) -> io::Result<()> {
         left = &left[times..];
     }
     writeln!(out)
-}
-
-fn run_totals(run: &TotalsRun, out: &mut impl Write) -> io::Result<()> {
-    let mut totals = run.totals.clone();
-    let mut book = TotalsBook::start(&totals);
-    for sheet in &run.sheets {
-        let before = totals.clone();
-        let number = reference::add_sheet(&mut totals, sheet);
-        writeln!(out, "add {} = {number}", hex(sheet))?;
-        let pairs = before.iter().zip(&totals).enumerate();
-        for (at, (_, now)) in pairs.filter(|(_, (old, now))| old != now) {
-            writeln!(out, "total {} {now}", at + 1)?;
-        }
-        book.record(sheet, number == 0);
-        writeln!(out, "growth {}", book.growth())?;
-    }
-    Ok(())
 }
