@@ -4,7 +4,7 @@ use mathlib.Core.Path.{_≡_, refl, sym, ap, ap₂, subst, _∙_}
 use Prim.Native.Nat.{ℕ}
 use mathlib.Core.List.{List}
 use lib.ListN.{length}
-use Rattle.geometry.specs.Laws.{image-whole, Opened}
+use Rattle.geometry.specs.Laws.{Opened, image-is, image-stays}
 use Rattle.format.specs.Refusals.{Try, Refusal, SIZE, numberOf, refused, ok, _>>=_, number, valueOr}
 use Rattle.format.specs.Geometry.{Format, Geometry, geometry, Disc, cut, flat, Write, written}
 use Rattle.format.specs.Calls.{answered, answerBy, asked, changed}
@@ -63,10 +63,7 @@ module _ {F : Format} {g : code.Geometry} {image : List ℕ} (o : Opened F g ima
   unfolding answerBy changed _>>=_ number valueOr
   changed-leaves f after r long l = rw (o .kind-is) (rw (o .geometry-is) (by (f (geo g) (sectorsOf g image)) l))
     where
-      whole : (x : List ℕ) → length x ≡ length image → flat (form g) (geo g) (sectorsOf g x) ≡ x
-      whole x h = image-whole (o .on-image) x h
-
       by : (t : Try Refusal (List Write)) → Leaves g image after r t
           → answered r after ≡ answerBy image (t >>= λ ws. ok (flat (form g) (geo g) (written ws (sectorsOf g image))))
-      by (refused q) l = ap₂ answered (l .answers) (sym (whole after long) ∙ ap (flat (form g) (geo g)) (l .sectors-are) ∙ whole image refl)
-      by (ok ws) l = ap₂ answered (l .answers) (sym (whole after long) ∙ ap (flat (form g) (geo g)) (l .sectors-are))
+      by (refused q) l = ap₂ answered (l .answers) (image-stays (o .on-image) after long (l .sectors-are))
+      by (ok ws) l = ap₂ answered (l .answers) (image-is (o .on-image) after long (l .sectors-are))

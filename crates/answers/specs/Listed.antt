@@ -1,6 +1,6 @@
 -- Laws of a command that gives the list of its writes: what it leaves in each case, and from its sectors to the image.
 -- Assumes nothing.
-use mathlib.Core.Path.{_≡_, refl, sym, ap, _∙_, subst}
+use mathlib.Core.Path.{_≡_, refl, sym, subst}
 use Prim.Native.Nat.{ℕ, _≤_, _<_}
 use mathlib.Core.Bool.{Bool, true, false}
 use mathlib.Core.List.{List}
@@ -14,7 +14,7 @@ use Rattle.format.specs.Geometry.{Format, geometry, Disc, flat, Write, written}
 use Rattle.format.specs.Writes.{writeList}
 use Rattle.format.specs.Calls.{listed, changeAnswerBy}
 use Rattle.geometry.specs.Meaning.{form, geo, sectorsOf}
-use Rattle.geometry.specs.Laws.{Opened, image-whole}
+use Rattle.geometry.specs.Laws.{Opened, image-is, image-stays}
 use Rattle.geometry.specs.declared.Geometry.{Geometry}
 use Rattle.answers.specs.declared.Filled.{Filled}
 use Rattle.answers.specs.Meaning.{Refuses, writtenBy, fitting, listBy, Lists, changeAnswer}
@@ -65,15 +65,8 @@ module _ {F : Format} {g : Geometry} {image : List ℕ} (o : Opened F g image) w
   unfolding changeAnswerBy listed fitting number _>>=_ _>>_ refuse_if_
   listed-leaves f after lent buffer r long l = rw (o .kind-is) (rw (o .geometry-is) (by (f (geo g) (sectorsOf g image)) l))
     where
-      whole : (x : List ℕ) → length x ≡ length image → flat (form g) (geo g) (sectorsOf g x) ≡ x
-      whole x h = image-whole (o .on-image) x h
-
-      -- the image as it was, and the new one
       old : sectorsOf g after ≡ sectorsOf g image → after ≡ image
-      old e = sym (whole after long) ∙ ap (flat (form g) (geo g)) e ∙ whole image refl
-
-      new : (ws : List Write) → sectorsOf g after ≡ written ws (sectorsOf g image) → after ≡ flat (form g) (geo g) (written ws (sectorsOf g image))
-      new ws e = sym (whole after long) ∙ ap (flat (form g) (geo g)) e
+      old e = image-stays (o .on-image) after long e
 
       by : (t : Try Refusal (List Write)) → Lists g image after lent buffer r t
           → changeAnswer r after buffer
@@ -89,4 +82,4 @@ module _ {F : Format} {g : Geometry} {image : List ℕ} (o : Opened F g image) w
               ≡ changeAnswerBy image lent (refuse SHORT if b
               >> ok (record { image = flat (form g) (geo g) (written ws (sectorsOf g image)); list = writeList (geo g) ws }))
           room true n z s w = λ i. record { number = n i; size = z i; image = old s i; buffer = w i }
-          room false n z s w = λ i. record { number = n i; size = z i; image = new ws s i; buffer = w i }
+          room false n z s w = λ i. record { number = n i; size = z i; image = image-is (o .on-image) after long s i; buffer = w i }

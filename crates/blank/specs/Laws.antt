@@ -10,14 +10,14 @@ use Rattle.format.specs.Refusals.{SIZE, refused, ok, _>>=_, _orRefuse_, number,
 use Rattle.lists.specs.Lists.{word}
 use Rattle.format.specs.Geometry.{Format, Geometry, geometry, sectors, go, flat}
 use Rattle.format.specs.Names.{discName}
-use Rattle.format.specs.Layout.{freePlace, freeCountPlace, discNamePlace, versionPlace, pairBytes}
+use Rattle.format.specs.Layout.{freeOffset, freeCountOffset, discNameOffset, versionOffset, pairBytes}
 use Rattle.format.specs.Effects.{headOf, version, blankDirectory, blankFree, blankSystem, blankDisc}
 use Rattle.format.specs.Calls.{answered, answerBy, blank, afterBlank}
 
 -- the system sector over zeros; the two pointers stand side by side
 pub system-is : (G : Geometry) (nine s pairs : List ℕ) (n : ℕ) → s ≡ replicate 256 0
     → pairs ≡ pairBytes G (headOf (blankFree G)) ++ pairBytes G (go (blankDirectory G)) → n ≡ sectors G
-    → sets (sets (sets (sets s freePlace pairs) freeCountPlace (word (n - 2) ++ word 0)) discNamePlace nine) versionPlace version ≡ blankSystem G nine
+    → sets (sets (sets (sets s freeOffset pairs) freeCountOffset (word (n - 2) ++ word 0)) discNameOffset nine) versionOffset version ≡ blankSystem G nine
 unfolding blankSystem
 system-is G nine s pairs n zeros ps many = rw (zeros, ps, many)
 

@@ -17,7 +17,7 @@ use Rattle.format.specs.Effects.{body, headOf, chained, passing, blankDirectory
 use Rattle.geometry.specs.Meaning.{form, geo, sectorsOf, Valid}
 use Rattle.geometry.specs.Laws.{good}
 use Rattle.geometry.specs.declared.Geometry.{Geometry}
-use Rattle.disc.specs.declared.Place.{Place}
+use Rattle.disc.specs.declared.Address.{Address}
 use Rattle.passing.specs.Meaning.{Stop, Passed}
 use Rattle.passing.specs.Positions.{passing-as-long, position-high, track-inside, stop-number}
 use Rattle.blank.specs.Meaning.{Bare}
@@ -103,7 +103,7 @@ module _ {g : Geometry} (v : Valid g) (track i : ℕ) (on : track < g .tracks) (
       z .zeros _ (omega (arith, stop-number v track i on h stop is, position-low v k low inside))
       (omega (arith, stop-number v track i on h stop is, position-high v k inside, length-cut (form g) (geo g) x, v .total))
 
-  pub linked-here : (m : ℕ) → m ≡ k + 1 → (r : Place) → Passed g m r → (x y : List ℕ) → Bare (sectorsOf g x)
+  pub linked-here : (m : ℕ) → m ≡ k + 1 → (r : Address) → Passed g m r → (x y : List ℕ) → Bare (sectorsOf g x)
       → sectorsOf g y ≡ set (sectorsOf g x) (sectorNumber (geo g) track (stop % 256)) (r .track ∷ r .sector ∷ replicate 254 0) → Linked g k m x y
   linked-here m next r p x y z e =
       let d : Disc = sectorsOf g x in

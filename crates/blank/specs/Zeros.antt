@@ -10,7 +10,7 @@ use lib.Seq.{sets, sets-eq, take-at, drop-at, ext-getD}
 use Rattle.format.specs.Geometry.{Format, Geometry, sectors, placeOf, Disc, sector, chunks, reordered, cut}
 use Rattle.format.specs.Arrangements.{Arranged, reordered-long, reordered-at}
 use Rattle.format.specs.GeometryLaws.{place-below, sector-other, sector-same}
-use Rattle.format.specs.Layout.{linkPlace}
+use Rattle.format.specs.Layout.{linkOffset}
 use Rattle.format.specs.Effects.{body}
 use Rattle.blank.specs.Meaning.{Bare}
 
@@ -44,7 +44,7 @@ cut-zeros F G a n e =
 -- ---- links written into sectors of zeros
 
 -- the link of a sector, stored in it, and what stands after it
-pub link-stored : (s : List ℕ) (a b : ℕ) → 2 ≤ length s → body s ≡ replicate 254 0 → sets s linkPlace (a ∷ b ∷ []) ≡ a ∷ b ∷ replicate 254 0
+pub link-stored : (s : List ℕ) (a b : ℕ) → 2 ≤ length s → body s ≡ replicate 254 0 → sets s linkOffset (a ∷ b ∷ []) ≡ a ∷ b ∷ replicate 254 0
 link-stored s a b h e = sets-eq (a ∷ b ∷ []) s 0 (omega arith) ∙ ap (λ (xs : List ℕ). a ∷ b ∷ xs) e
 
 -- zeros but for 0/1

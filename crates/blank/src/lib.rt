@@ -1,6 +1,6 @@
 // The blank disc.
+use disc::Address;
 use disc::Link;
-use disc::Place;
 use geometry::Geometry;
 use geometry::Sized;
 use geometry::Stated;
@@ -10,7 +10,7 @@ ghost use Prim.Native.Nat.{_+_, _*_, _%_, _-_, _≤_, _<_};
 ghost use mathlib.Core.List.{_∷_, _++_};
 ghost use lib.ListN.{length, set, replicate};
 ghost use Rattle.format.specs.Geometry.{sectors, sectorNumber, go, sector, written};
-ghost use Rattle.format.specs.Layout.{versionPlace, pairBytes};
+ghost use Rattle.format.specs.Layout.{versionOffset, pairBytes};
 ghost use Rattle.format.specs.Effects.{body, headOf, chained, version, blankDirectory, blankFree, blankSystem, blankDisc};
 ghost use Rattle.format.specs.Calls.{answered, afterBlank};
 ghost use Rattle.geometry.specs.Meaning.{kindOf, geo, sectorsOf, Valid, Image};
@@ -30,7 +30,7 @@ fn clear(image: &mut [u8])
 }
 
 // Writes the link of a sector that has zeros after it.
-fn link_to(image: &mut [u8], g: Geometry, track: usize, from: u16, to: Place)
+fn link_to(image: &mut [u8], g: Geometry, track: usize, from: u16, to: Address)
     requires { ⌜ Image g (now image) × (track < g .tracks) × Stop g (from % 256) from
         × (body (sector (sectorsOf g (now image)) (sectorNumber (geo g) track (from % 256))) ≡ replicate 254 0) ⌝ }
     ensures { λ _. ⌜ sectorsOf g (now (image .exit)) ≡
@@ -41,12 +41,12 @@ fn link_to(image: &mut [u8], g: Geometry, track: usize, from: u16, to: Place)
 }
 
 // What the chain passes after a track: the first sector of the next one, or nothing.
-fn after_track(g: Geometry, stops: &[u16], track: usize) -> Place
+fn after_track(g: Geometry, stops: &[u16], track: usize) -> Address
     requires { ⌜ Valid g × Stops g (now stops) × (track < g .tracks) ⌝ }
     ensures { λ r. ⌜ Passed g (geo g .perTrack * (track + 1)) r ⌝ }
 {
     if track + 1 < g.tracks {
-        return Place {
+        return Address {
             track: (track + 1) as u8,
             sector: passing::sector_of_stop(stops[0]),
         };
@@ -64,7 +64,7 @@ fn put_track(image: &mut [u8], g: Geometry, stops: &[u16], track: usize, first: 
     let mut here = stops[i];
     while i + 1 < g.per_track {
         let next = stops[i + 1];
-        let to = Place {
+        let to = Address {
             track: track as u8,
             sector: passing::sector_of_stop(next),
         };
@@ -94,7 +94,7 @@ fn pointers(g: Geometry, stops: &[u16]) -> [u8; 4]
     requires { ⌜ Valid g × Stops g (now stops) ⌝ }
     ensures { λ r. ⌜ r ≡ pairBytes (geo g) (headOf (blankFree (geo g))) ++ pairBytes (geo g) (go (blankDirectory (geo g))) ⌝ }
 {
-    let directory = disc::place_of(g, Link::To(geometry::number_of(g, 0, 4)));
+    let directory = disc::address_of(g, Link::To(geometry::number_of(g, 0, 4)));
     [
         passing::sector_of_stop(stops[TAKEN]),
         0,
@@ -106,7 +106,7 @@ fn pointers(g: Geometry, stops: &[u16]) -> [u8; 4]
 // Writes the version into the system sector.
 fn put_version(image: &mut [u8], g: Geometry)
     requires { ⌜ Image g (now image) ⌝ }
-    ensures { λ _. ⌜ sectorsOf g (now (image .exit)) ≡ storedAt (sectorsOf g (now (image .entry))) 0 versionPlace version ⌝ }
+    ensures { λ _. ⌜ sectorsOf g (now (image .exit)) ≡ storedAt (sectorsOf g (now (image .entry))) 0 versionOffset version ⌝ }
 {
     disc::put(
         image,

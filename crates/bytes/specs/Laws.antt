@@ -1,14 +1,15 @@
 -- Laws of the loops over bytes: one turn, the turn that ends the loop early, and the end.
 -- Assumes nothing.
-use mathlib.Core.Path.{_≡_, sym, ap, _∙_}
-use Prim.Native.Nat.{ℕ, suc, _+_, _-_, _≤_, _<_}
+use mathlib.Core.Path.{_≡_, refl, sym, ap, _∙_}
+use Prim.Native.Nat.{ℕ, zero, suc, _+_, _-_, _≤_, _<_}
 use native.Mathlib.Omega.{arith}
 use native.Mathlib.Numerals.{add-one}
-use mathlib.Core.Bool.{true, false}
+use mathlib.Core.Bool.{Bool, true, false, _&&_, and-assoc}
 use mathlib.Core.List.{List, [], _∷_}
 use lib.ListN.{length, getD, set, take, drop, replicate, length-drop, length-replicate, drop-of-length-le}
 use lib.Seq.{sets, slice, slice-cons, drop-cons, length-take-le, getD-take, getD-drop}
 use lib.Dec.{eqb}
+use lib.Bits.{bitOr, or-zero-l, or-add-and, and-le-r}
 use borrow.Author.Tests.{eq-eqb, ne-eqb}
 use Rattle.lists.specs.Stores.{sets-whole}
 use Rattle.lists.specs.Lists.{all, byte, same}
@@ -82,3 +83,34 @@ module _ (xs : List ℕ) (i e : ℕ) (inside : e ≤ length xs) where
 
     pub all-stop : i < e → (byte xs i ≡ v → ⊥) → all (eqb v) (slice i e xs) ≡ false
     all-stop h q = ap (all (eqb v)) (slice-step h) ∙ simp (ne-eqb v _ (λ p. q (sym p)))
+
+-- ---- bits gathered from bytes: none are set exactly where all of these are zero
+
+or-none : (a b : ℕ) → eqb 0 (bitOr a b) ≡ eqb 0 a && eqb 0 b
+or-none zero b = ap (eqb 0) (or-zero-l b)
+or-none (suc a) b =
+    ne-eqb 0 (bitOr (suc a) b) (λ e. omega (arith, or-add-and (suc a) b, and-le-r (suc a) b))
+    ∙ ap (λ (c : Bool). c && eqb 0 b) (sym (ne-eqb 0 (suc a) (λ e. omega arith)))
+
+module _ (xs : List ℕ) (a n : ℕ) (inside : a + n ≤ length xs) where
+  pub zero-start : eqb 0 0 && all (eqb 0) (slice (a + 0) (a + n) xs) ≡ all (eqb 0) (slice a (a + n) xs)
+  zero-start = let e : a + 0 ≡ a = omega arith in ap (λ (k : ℕ). all (eqb 0) (slice k (a + n) xs)) e
+
+  module _ (i seen : ℕ) where
+    pub zero-step : i < n
+        → eqb 0 (bitOr seen (byte xs (a + i))) && all (eqb 0) (slice (a + (i + 1)) (a + n) xs) ≡ eqb 0 seen && all (eqb 0) (slice (a + i) (a + n) xs)
+    zero-step h =
+        let next : a + i + 1 ≡ a + (i + 1) = omega arith in
+        let rest : Bool = all (eqb 0) (slice (a + (i + 1)) (a + n) xs) in
+        let turn : slice (a + i) (a + n) xs ≡ byte xs (a + i) ∷ slice (a + (i + 1)) (a + n) xs =
+        slice-step xs (a + i) (a + n) inside (omega arith) ∙ ap (λ (k : ℕ). byte xs (a + i) ∷ slice k (a + n) xs) next in
+        ap (λ (c : Bool). c && rest) (or-none seen (byte xs (a + i)))
+        ∙ and-assoc (eqb 0 seen) (eqb 0 (byte xs (a + i))) rest
+        ∙ ap (λ (ys : List ℕ). eqb 0 seen && all (eqb 0) ys) (sym turn)
+
+    pub zero-end : n ≤ i → eqb 0 seen && all (eqb 0) (slice (a + i) (a + n) xs) ≡ eqb seen 0
+    zero-end h = ap (λ (ys : List ℕ). eqb 0 seen && all (eqb 0) ys) (slice-over xs (a + i) (a + n) inside (omega arith)) ∙ by seen
+      where
+        by : (k : ℕ) → eqb 0 k && true ≡ eqb k 0
+        by zero = refl
+        by (suc k) = simp (ne-eqb 0 (suc k) (λ e. omega arith), ne-eqb (suc k) 0 (λ e. omega arith))

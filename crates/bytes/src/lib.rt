@@ -78,3 +78,17 @@ pub fn are_all(bytes: &[u8], at: usize, end: usize, value: u8) -> bool
     }
     true
 }
+
+// Whether the `count` bytes from position `at` on are zero. All of them are read: a loop without a branch takes many at once.
+pub fn are_zero(bytes: &[u8], at: usize, count: usize) -> bool
+    requires { ⌜ at + count ≤ length (now bytes) ⌝ }
+    ensures { λ r. ⌜ r ≡ all (eqb 0) (slice at (at + count) (now (bytes .entry))) ⌝ }
+{
+    let mut seen: u8 = 0;
+    let mut i: usize = 0;
+    while i < count {
+        seen = seen | bytes[at + i];
+        i += 1;
+    }
+    seen == 0
+}

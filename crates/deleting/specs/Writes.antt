@@ -9,7 +9,7 @@ use lib.Seq.{sets}
 use Rattle.lists.specs.Lists.{byte, lastOr}
 use Rattle.format.specs.Geometry.{Geometry, Disc, sector, written}
 use Rattle.format.specs.GeometryLaws.{sector-other}
-use Rattle.format.specs.Layout.{linkPlace, inUsePlace, system, freeCount, usedCount, Slot, emptySlot, lengthOf, linkBytes, freePointer, firstOf, fileChain}
+use Rattle.format.specs.Layout.{linkOffset, inUseOffset, system, freeCount, usedCount, Slot, emptySlot, lengthOf, linkBytes, freePointer, firstOf, fileChain}
 use Rattle.format.specs.Effects.{withSlot, systemWrite, deleteWrites}
 use Rattle.disc.specs.Meaning.{storedAt}
 use Rattle.soundness.specs.WriteFacts.{Removable}
@@ -17,8 +17,8 @@ use Rattle.system.specs.Laws.{system-from}
 
 module _ (G : Geometry) (d : Disc) (s : Slot) (r : Removable G d s) where
   pub three-writes : (d₁ d₂ d₃ : Disc)
-      → d₁ ≡ set d (s .home) (withSlot (sector d (s .home)) (s .index) (byte (sector d (s .home)) inUsePlace - 1) emptySlot)
-      → d₂ ≡ storedAt d₁ (lastOr 0 (fileChain G d s)) linkPlace (linkBytes G (freePointer G d))
+      → d₁ ≡ set d (s .home) (withSlot (sector d (s .home)) (s .index) (byte (sector d (s .home)) inUseOffset - 1) emptySlot)
+      → d₂ ≡ storedAt d₁ (lastOr 0 (fileChain G d s)) linkOffset (linkBytes G (freePointer G d))
       → d₃ ≡ written (systemWrite G d₂ (firstOf G s) (freeCount d + lengthOf s) (usedCount d - lengthOf s) ∷ []) d₂
       → d₃ ≡ written (deleteWrites G d s) d
   unfolding deleteWrites
@@ -36,4 +36,4 @@ module _ (G : Geometry) (d : Disc) (s : Slot) (r : Removable G d s) where
       e₃
       ∙ system-from G d d₂ (firstOf G s) _ _ system-stays
       ∙ ap (written (systemWrite G d (firstOf G s) (freeCount d + lengthOf s) (usedCount d - lengthOf s) ∷ []))
-      (e₂ ∙ ap₂ (λ (x : Disc) (y : List ℕ). set x last (sets y linkPlace link)) e₁ last-stays)
+      (e₂ ∙ ap₂ (λ (x : Disc) (y : List ℕ). set x last (sets y linkOffset link)) e₁ last-stays)

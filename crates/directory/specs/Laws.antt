@@ -8,23 +8,25 @@ use mathlib.Core.Bool.{Bool, true, false, not, true≢false}
 use mathlib.Core.Option.{none, some}
 use mathlib.Core.List.{List, [], _∷_, _++_, head?}
 use lib.Seq.{getD-take}
-use Rattle.lists.specs.Lists.{byte, same, consIf, filter}
-use Rattle.lists.specs.ListLaws.{and-true, filter-join, filter-yes, filter-no, same-true}
+use Rattle.lists.specs.Lists.{byte, same, filter}
+use Rattle.lists.specs.ListLaws.{and-true, filter-join, filter-yes, filter-no, filter-filter, head-left, head-right, same-true}
 use Rattle.format.specs.Geometry.{Geometry, Next, stop, go, off, Disc, sector}
 use Rattle.format.specs.ChainLaws.{met-stop, met-off, met-none, met-go}
 use Rattle.format.specs.Names.{letter, legalStored}
-use Rattle.format.specs.Layout.{slotsEach, Slot, emptySlot, freeSlot, inUse, nameOf, slotAt, slotsAt, slotsOf, linkOf, met, directoryPointer, directory, slots, entries, find, openSlot}
+use Rattle.format.specs.Layout.{slotsEach, Slot, emptySlot, freeSlot, inUse, nameOf, slotAt, slotsAt}
+use Rattle.format.specs.Layout.{slotsOf, linkOf, met, directoryPointer, directory, slots, entries, find, openSlot}
+use Rattle.format.specs.SlotLaws.{inUse-join}
 use Rattle.geometry.specs.Meaning.{geo, sectorsOf, Image}
 use Rattle.disc.specs.Meaning.{meaning}
 use Rattle.disc.specs.Laws.{inside}
 use Rattle.geometry.specs.declared.Geometry as code
 use Rattle.disc.specs.declared.Link.{Link}
-use Rattle.slots.specs.InOrder.{slotsFrom, slots-all, slots-next, use-join}
+use Rattle.slots.specs.InOrder.{slotsFrom, slots-all, slots-next}
 use Rattle.directory.specs.Meaning.{restOf, entriesLeft, Started, Met, Stepped, firstThat}
 use Rattle.geometry.specs.declared.SectorNo.{SectorNo}
 use Rattle.directory.specs.declared.Cursor.{Cursor}
-use Rattle.directory.specs.declared.Step.{Step}
-use Rattle.directory.specs.declared.Step.the-variants.{Sector, End}
+use Rattle.directory.specs.declared.Visit.{Visit}
+use Rattle.directory.specs.declared.Visit.the-variants.{Sector, End}
 
 -- ---- the walk
 
@@ -66,7 +68,7 @@ module _ (g : code.Geometry) (image : List ℕ) (w : Cursor) where
   rest-off e = ap (met (geo g) (sectorsOf g image) (w .left)) e ∙ met-off (geo g) (sectorsOf g image) (w .left)
 
 -- what a step that was made tells: sector n was met, or the walk is over
-module _ (g : code.Geometry) (image : List ℕ) (w : Cursor) {s : Step} where
+module _ (g : code.Geometry) (image : List ℕ) (w : Cursor) {s : Visit} where
   pub stepped-to : {n : SectorNo} {v : Cursor} → s ≡ Sector n v → Stepped g image w s → Met g image w (n .0) v
   stepped-to e h = subst (Stepped g image w) e h
 
@@ -101,7 +103,7 @@ module _ {g : code.Geometry} {image : List ℕ} where
       let d : Disc = sectorsOf g image in
       ap (λ (ns : List ℕ). inUse (slotsOf d ns)) (m .next)
       ∙ ap inUse (slots-cons d n (restOf g image v))
-      ∙ use-join (slotsAt d n) (slotsOf d (restOf g image v))
+      ∙ inUse-join (slotsAt d n) (slotsOf d (restOf g image v))
       ∙ ap (λ (ss : List Slot). inUse ss ++ inUse (slotsOf d (restOf g image v))) (slots-all d n)
 
 pub left-over : (g : code.Geometry) (image : List ℕ) (w : Cursor) → restOf g image w ≡ [] → entriesLeft g image w ≡ []
@@ -119,14 +121,6 @@ module _ (p : Slot → Bool) where
     pub first-next : p (slotAt d n i) ≡ false → firstThat p (slotsFrom d n i) ≡ firstThat p (slotsFrom d n (i + 1))
     first-next e = ap (firstThat p) (slots-next d n i h) ∙ ap head? (filter-no p (slotAt d n i) (slotsFrom d n (i + 1)) e)
 
-  head-left : (s : Slot) (xs ys : List Slot) → head? xs ≡ some s → head? (xs ++ ys) ≡ some s
-  head-left s [] ys e = cc
-  head-left s (x ∷ xs) ys e = e
-
-  head-right : (xs ys : List Slot) → head? xs ≡ none → head? (xs ++ ys) ≡ head? ys
-  head-right [] ys e = refl
-  head-right (x ∷ xs) ys e = cc
-
   -- in sector n, or in those after it
   module _ (d : Disc) (n : ℕ) (ns : List ℕ) where
     first-join : firstThat p (slotsOf d (n ∷ ns)) ≡ head? (filter p (slotsAt d n) ++ filter p (slotsOf d ns))
@@ -143,16 +137,6 @@ unfolding openSlot
 open-first G d = refl
 
 -- ---- no free slot has a legal name
-
--- a second test changes nothing where the first one implies it
-filter-filter : {A : Type 0} (p q : A → Bool) → ((a : A) → p a ≡ true → q a ≡ true) → (xs : List A) → filter p (filter q xs) ≡ filter p xs
-filter-filter p q h [] = refl
-filter-filter {A} p q h (x ∷ xs) = by (q x) (p x) refl refl (filter-filter p q h xs)
-  where
-    by : (a b : Bool) → q x ≡ a → p x ≡ b → filter p (filter q xs) ≡ filter p xs → filter p (consIf a x (filter q xs)) ≡ consIf b x (filter p xs)
-    by true b e g i = rw g (ap (consIf b x) i)
-    by false true e g i = absurd (true≢false (sym (h x g) ∙ e))
-    by false false e g i = i
 
 -- the first byte of a legal name is a letter, that of a free slot is 0
 named-used : (nine : List ℕ) → legalStored nine ≡ true → (s : Slot) → same (nameOf s) nine ≡ true → not (freeSlot s) ≡ true

@@ -12,8 +12,8 @@ use Rattle.geometry.specs.Meaning.{geo, sectorsOf}
 use Rattle.disc.specs.Meaning.{meaning, Inside}
 use Rattle.geometry.specs.declared.Geometry.{Geometry}
 use Rattle.directory.specs.declared.Cursor.{Cursor}
-use Rattle.directory.specs.declared.Step.{Step}
-use Rattle.directory.specs.declared.Step.the-variants.{Sector, End}
+use Rattle.directory.specs.declared.Visit.{Visit}
+use Rattle.directory.specs.declared.Visit.the-variants.{Sector, End}
 use Rattle.directory.specs.declared.Found.{Found}
 use Rattle.directory.specs.declared.Found.the-variants.{At, Nothing}
 use Rattle.directory.specs.declared.Wanted.{Wanted}
@@ -40,7 +40,7 @@ pub record Met (g : Geometry) (image : List ℕ) (w : Cursor) (n : ℕ) (v : Cur
   pub inside : Inside g (v .at)
 
 -- the step that a walk makes
-abbrev pub Stepped : Geometry → List ℕ → Cursor → Step → Type 0
+abbrev pub Stepped : Geometry → List ℕ → Cursor → Visit → Type 0
 Stepped g image w (Sector n v) = Met g image w (n .0) v
 Stepped g image w End = restOf g image w ≡ []
 

@@ -21,7 +21,7 @@ pub struct Cursor {
 }
 
 // The next sector of a walk, with what is left to walk; or its end.
-pub enum Step {
+pub enum Visit {
     Sector(SectorNo, Cursor),
     End,
 }
@@ -36,25 +36,25 @@ pub fn start(image: &[u8], g: Geometry) -> Cursor
     }
 }
 
-pub fn advance(image: &[u8], g: Geometry, w: Cursor) -> Step
+pub fn advance(image: &[u8], g: Geometry, w: Cursor) -> Visit
     requires { ⌜ Image g (now image) × Inside g (w .at) ⌝ }
     ensures { λ r. ⌜ Stepped g (now (image .entry)) w r ⌝ }
 {
     let at = w.at;
     let left = w.left;
     if left == 0 {
-        return Step::End;
+        return Visit::End;
     }
     match at {
-        Link::To(n) => Step::Sector(
+        Link::To(n) => Visit::Sector(
             n,
             Cursor {
                 at: disc::link_of(image, g, n),
                 left: left - 1,
             },
         ),
-        Link::End => Step::End,
-        Link::Off => Step::End,
+        Link::End => Visit::End,
+        Link::Off => Visit::End,
     }
 }
 
@@ -104,7 +104,7 @@ fn search(image: &[u8], g: Geometry, w: Wanted) -> Found
     let mut rest = start(image, g);
     loop {
         let next = advance(image, g, rest);
-        let Step::Sector(n, after) = next else {
+        let Visit::Sector(n, after) = next else {
             return Found::Nothing;
         };
         let here = search_sector(image, g, n, w);
@@ -141,7 +141,7 @@ pub fn last_sector(image: &[u8], g: Geometry) -> SectorNo
     let mut rest = start(image, g);
     loop {
         let next = advance(image, g, rest);
-        let Step::Sector(n, after) = next else {
+        let Visit::Sector(n, after) = next else {
             return last;
         };
         last = n;

@@ -20,7 +20,7 @@ meaning End = stop
 meaning (To n) = go (n .0)
 meaning Off = off
 
--- the sectors with bytes stored from place k of sector n on
+-- the sectors with bytes stored from offset k of sector n on
 abbrev pub storedAt : Disc → ℕ → ℕ → List ℕ → Disc
 storedAt d n k xs = set d n (sets (sector d n) k xs)
 

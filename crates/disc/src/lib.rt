@@ -7,7 +7,7 @@ ghost use mathlib.Core.Bool.{true};
 ghost use lib.ListN.{length, set};
 ghost use Rattle.lists.specs.Lists.{byte, wordAt};
 ghost use Rattle.format.specs.Geometry.{onDisc, sectorNumber, pointed, sector, trackOf, sectorOf};
-ghost use Rattle.format.specs.Layout.{linkPlace, linkOf, pairAt, trackByte, sectorByte, linkBytes};
+ghost use Rattle.format.specs.Layout.{linkOffset, linkOf, pairAt, trackByte, sectorByte, linkBytes};
 ghost use Rattle.geometry.specs.Meaning.{geo, sectorsOf, Valid, Image};
 ghost use Rattle.disc.specs.Meaning.{meaning, storedAt, Inside, Lies, led, Reaches};
 
@@ -96,7 +96,7 @@ pub fn step_to(g: Geometry, to: Link) -> Step
     }
 }
 
-// Where the pair at place k of sector n leads.
+// Where the pair at offset k of sector n leads.
 pub fn step_of(image: &[u8], g: Geometry, n: SectorNo, k: usize) -> Step
     requires { ⌜ Image g (now image) × (n .0 < g .sectors) × (k + 1 < 256) ⌝ }
     ensures { λ r. ⌜ (led r ≡ pairAt (geo g) (sector (sectorsOf g (now (image .entry))) (n .0)) k) × Reaches g r ⌝ }
@@ -131,7 +131,7 @@ pub fn byte_in(image: &[u8], g: Geometry, s: Sector, k: usize) -> u8
     image[start + k]
 }
 
-// The sixteen bits at place k of sector n, low byte first.
+// The sixteen bits at offset k of sector n, low byte first.
 pub fn word_of(image: &[u8], g: Geometry, n: SectorNo, k: usize) -> u16
     requires { ⌜ Image g (now image) × (n .0 < g .sectors) × (k + 1 < 256) ⌝ }
     ensures { λ r. ⌜ r ≡ wordAt (sector (sectorsOf g (now (image .entry))) (n .0)) k ⌝ }
@@ -149,7 +149,7 @@ pub fn link_of(image: &[u8], g: Geometry, n: SectorNo) -> Link
     pointed_at(g, image[start], image[start + 1])
 }
 
-// Where the pair at place k of sector n leads.
+// Where the pair at offset k of sector n leads.
 pub fn pair_of(image: &[u8], g: Geometry, n: SectorNo, k: usize) -> Link
     requires { ⌜ Image g (now image) × (n .0 < g .sectors) × (k + 1 < 256) ⌝ }
     ensures { λ r. ⌜ meaning r ≡ pairAt (geo g) (sector (sectorsOf g (now (image .entry))) (n .0)) k ⌝ }
@@ -158,7 +158,7 @@ pub fn pair_of(image: &[u8], g: Geometry, n: SectorNo, k: usize) -> Link
     pointed_at(g, image[at + 1], image[at])
 }
 
-// Stores the bytes of `from` in sector n, from place k on.
+// Stores the bytes of `from` in sector n, from offset k on.
 pub fn put(image: &mut [u8], g: Geometry, n: SectorNo, k: usize, from: &[u8])
     requires { ⌜ Image g (now image) × (n .0 < g .sectors) × (k + length (now from) ≤ 256) ⌝ }
     ensures { λ _. ⌜ sectorsOf g (now (image .exit)) ≡ storedAt (sectorsOf g (now (image .entry))) (n .0) k (now (from .entry)) ⌝ }
@@ -183,34 +183,34 @@ pub fn put_sector(image: &mut [u8], g: Geometry, n: SectorNo, from: &[u8])
 }
 
 // A track and a sector byte; both are zero where there is no sector.
-pub struct Place {
+pub struct Address {
     pub track: u8,
     pub sector: u8,
 }
 
 // Track and sector of sector n.
-fn place_at(g: Geometry, n: SectorNo) -> Place
+fn address_at(g: Geometry, n: SectorNo) -> Address
     requires { ⌜ Valid g × (n .0 < g .sectors) ⌝ }
     ensures { λ r. ⌜ (r .track ≡ trackOf (geo g) (n .0)) × (r .sector ≡ sectorOf (geo g) (n .0)) ⌝ }
 {
-    Place {
+    Address {
         track: (n.0 / g.per_track) as u8,
         sector: (n.0 % g.per_track + 1) as u8,
     }
 }
 
 // What is written for the end of a chain, and for a pointer to none.
-pub const NOWHERE: Place = Place {
+pub const NOWHERE: Address = Address {
     track: 0,
     sector: 0,
 };
 
-pub fn place_of(g: Geometry, to: Link) -> Place
+pub fn address_of(g: Geometry, to: Link) -> Address
     requires { ⌜ Valid g × Inside g to ⌝ }
     ensures { λ r. ⌜ (r .track ≡ trackByte (geo g) (meaning to)) × (r .sector ≡ sectorByte (geo g) (meaning to)) ⌝ }
 {
     match to {
-        Link::To(n) => place_at(g, n),
+        Link::To(n) => address_at(g, n),
         Link::End => NOWHERE,
         Link::Off => NOWHERE,
     }
@@ -219,9 +219,9 @@ pub fn place_of(g: Geometry, to: Link) -> Place
 // Writes the link of sector n.
 pub fn put_link(image: &mut [u8], g: Geometry, n: SectorNo, to: Link)
     requires { ⌜ Image g (now image) × (n .0 < g .sectors) × Inside g to ⌝ }
-    ensures { λ _. ⌜ sectorsOf g (now (image .exit)) ≡ storedAt (sectorsOf g (now (image .entry))) (n .0) linkPlace (linkBytes (geo g) (meaning to)) ⌝ }
+    ensures { λ _. ⌜ sectorsOf g (now (image .exit)) ≡ storedAt (sectorsOf g (now (image .entry))) (n .0) linkOffset (linkBytes (geo g) (meaning to)) ⌝ }
 {
-    let place = place_of(g, to);
-    let link = [place.track, place.sector];
+    let address = address_of(g, to);
+    let link = [address.track, address.sector];
     put(image, g, n, 0, &link);
 }

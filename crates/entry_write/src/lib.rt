@@ -13,7 +13,7 @@ ghost use Rattle.format.specs.Effects.{slotWrite};
 ghost use Rattle.geometry.specs.Meaning.{sectorsOf, Image};
 ghost use Rattle.answers.specs.Meaning.{Lists};
 
-// Stores bytes from place k of slot i of sector n on.
+// Stores bytes from offset k of slot i of sector n on.
 fn put_in_slot(image: &mut [u8], g: Geometry, n: SectorNo, i: usize, k: usize, bytes: &[u8])
     requires { ⌜ Image g (now image) × (n .0 < g .sectors) × (i < slotsEach) × (k + length (now bytes) ≤ 16) ⌝ }
     ensures { λ _. do

@@ -1,4 +1,5 @@
-// Executes the unstarred examples of document 01 and prints what comes out, line by line.
+// Executes the unstarred examples of document 01, and views of sectors, and prints what comes out, line by line.
+use geometry::Stated;
 use libc::STDOUT_FILENO;
 
 const TRACK: usize = 2560;
@@ -10,6 +11,7 @@ fn main() {
     sectors_for_lengths();
     directory_growth();
     rename_to_itself();
+    views();
 }
 
 fn text(bytes: &[u8]) {
@@ -131,4 +133,31 @@ fn rename_to_itself() {
     text(b"\nthe same, protected: ");
     rename_thursday(&mut image, &mut writes);
     text(b"\n");
+}
+
+// Prints how many bytes a view of the sector shows, and those that are the disc's name in the system sector.
+fn view_sector(image: &[u8], sector: u32) {
+    let stated = Stated {
+        sectors: 10,
+        arrangement: 0,
+    };
+    let shown = view::view(image, stated, 0, sector);
+    text(b"view of 0/");
+    number(sector as u64);
+    text(b": ");
+    number(shown.len() as u64);
+    text(b" bytes");
+    if 31 <= shown.len() {
+        text(b", ");
+        text(&shown[22..31]);
+    }
+    text(b"\n");
+}
+
+// "shows the 254 bytes after a sector's link where they lie in the image"; "with a refusal .. a view is empty"
+fn views() {
+    let mut image = [0u8; TRACK];
+    tandos::tandos_blank(&mut image, 10, 0, b"THURSDAYS");
+    view_sector(&image, 1);
+    view_sector(&image, 11);
 }

@@ -11,7 +11,6 @@ use lib.Seq.{getD-set-other, getD-set-same, ext-getD}
 use Rattle.lists.specs.Lists.{all, range, times, Once}
 use Rattle.lists.specs.ListLaws.{All, range-all, all-mapped, all-getD, once-length}
 use Rattle.lists.specs.Indices.{range-long, mapped-range}
-pub use Rattle.lists.specs.Indices.{index-range}
 use Rattle.format.specs.Geometry.{Format, Geometry, Disc, sector, reordered}
 
 -- ---- the arrangement of a track

@@ -19,10 +19,10 @@ use Rattle.format.specs.Geometry.{Format, Geometry, geometry, sectors, s
 use Rattle.format.specs.Arrangements.{Arranged}
 use Rattle.format.specs.GeometryLaws.{sector-cut}
 use Rattle.format.specs.Names.{stored}
-use Rattle.format.specs.Layout.{namePlace, attributePlace, Slot, attributeOf, isProtected, protectedAs, free, find}
+use Rattle.format.specs.Layout.{nameOffset, attributeOffset, Slot, attributeOf, isProtected, protectedAs, free, find}
 use Rattle.format.specs.Check.{filesHold, broken, sound}
 use Rattle.format.specs.CheckLaws.{RulesTo5, hold-reported, rules-hold, hold-rules}
-use Rattle.format.specs.Modules.{Module, allowed}
+use Rattle.format.specs.Modules.{Module, storable}
 use Rattle.format.specs.Effects.{body, slotWrite, needed, saveWrites, deleteWrites, repairWrites}
 use Rattle.format.specs.Calls.{saveBeforeOn, saveOn, deleteOn, renameOn, protectOn, repairOn, view, partBy, viewPart}
 
@@ -36,7 +36,7 @@ module _ (G : Geometry) (d : Disc) where
   pub record Saved (name : List ℕ) (m : Module) (ws : List Write) : Type 0 where
     pub nine : List ℕ
     pub typed : stored name ≡ some nine
-    pub fits : allowed m ≡ true
+    pub fits : storable m ≡ true
     pub checked : sound G d ≡ true
     pub absent : find G d nine ≡ none
     pub room : needed G d (length (m .bytes)) ≤ length (free G d)
@@ -90,7 +90,7 @@ module _ (G : Geometry) (d : Disc) where
     pub found : find G d nine ≡ some s
     pub unprotected : isProtected (attributeOf s) ≡ false
     pub absent : find G d nine′ ≡ none
-    pub writes : slotWrite d s namePlace nine′ ∷ [] ≡ ws
+    pub writes : slotWrite d s nameOffset nine′ ∷ [] ≡ ws
 
   pub rename-ok : (old new : List ℕ) (ws : List Write) → renameOn G d old new ≡ ok ws → Renamed old new ws
   unfolding renameOn
@@ -120,7 +120,7 @@ module _ (G : Geometry) (d : Disc) where
     pub typed : stored name ≡ some nine
     pub checked : sound G d ≡ true
     pub found : find G d nine ≡ some s
-    pub writes : slotWrite d s attributePlace (protectedAs (not (eqb on 0)) (attributeOf s) ∷ []) ∷ [] ≡ ws
+    pub writes : slotWrite d s attributeOffset (protectedAs (not (eqb on 0)) (attributeOf s) ∷ []) ∷ [] ≡ ws
 
   pub protect-ok : (name : List ℕ) (on : ℕ) (ws : List Write) → protectOn G d name on ≡ ok ws → Protected name on ws
   unfolding protectOn

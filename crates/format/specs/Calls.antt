@@ -12,9 +12,9 @@ use Rattle.format.specs.Refusals.{Try, Refusal, NAME, UNSOUND, ABSENT, T
 use Rattle.format.specs.Refusals.{BAD-LIST, numberOf, refused, ok, _>>=_, _>>_, refuse_if_, _orRefuse_, number, valueOr}
 use Rattle.format.specs.Geometry.{Format, Geometry, geometry, sectorNumber, onDisc, Disc, cut, flat, Part, bodyPart, Write, written}
 use Rattle.format.specs.Names.{stored, discName}
-use Rattle.format.specs.Layout.{namePlace, attributePlace, attributeOf, isProtected, protectedAs, free, find}
+use Rattle.format.specs.Layout.{nameOffset, attributeOffset, attributeOf, isProtected, protectedAs, free, find}
 use Rattle.format.specs.Check.{filesHold, broken, sound}
-use Rattle.format.specs.Modules.{Module, endOf, allowed}
+use Rattle.format.specs.Modules.{Module, endOf, storable}
 use Rattle.format.specs.Effects.{slotWrite, needed, saveWrites, deleteWrites, reading, listing, blankDisc, repairWrites}
 use Rattle.format.specs.Writes.{writeList, held}
 
@@ -42,7 +42,7 @@ module _ (G : Geometry) (d : Disc) where
   unfoldable pub saveBeforeOn : (name : List ℕ) (m : Module) → Try Refusal (List ℕ)
   saveBeforeOn name m = do
     nine ← stored name orRefuse NAME
-    refuse MODULE if not (allowed m)
+    refuse MODULE if not (storable m)
     refuse UNSOUND if not (sound G d)
     refuse TAKEN if isSome (find G d nine)
     ok nine
@@ -72,7 +72,7 @@ module _ (G : Geometry) (d : Disc) where
     s ← find G d nine orRefuse ABSENT
     refuse PROTECTED if isProtected (attributeOf s)
     refuse TAKEN if isSome (find G d nine′)
-    ok (slotWrite d s namePlace nine′ ∷ [])
+    ok (slotWrite d s nameOffset nine′ ∷ [])
 
   -- "protect 1, 2, 3, 4"; "on or off (by number, 0 is off and any other on)"; "asking for what already stands is done, with nothing changed": the
   -- write is made all the same
@@ -81,7 +81,7 @@ module _ (G : Geometry) (d : Disc) where
     nine ← stored name orRefuse NAME
     refuse UNSOUND if not (sound G d)
     s ← find G d nine orRefuse ABSENT
-    ok (slotWrite d s attributePlace (protectedAs (not (eqb on 0)) (attributeOf s) ∷ []) ∷ [])
+    ok (slotWrite d s attributeOffset (protectedAs (not (eqb on 0)) (attributeOf s) ∷ []) ∷ [])
 
   -- "The replayer is a call of its own: a list with another kind, a cut record, .. gives 14, BAD LIST, after 1", whatever stands on the disc
   unfoldable pub replayOn : (writes : List ℕ) → Try Refusal (List Write)

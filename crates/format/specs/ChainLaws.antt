@@ -14,7 +14,7 @@ use Rattle.lists.specs.Lists.{times, lastOr, byte}
 use Rattle.lists.specs.ListLaws.{All, done, _also_, times-none, times-here, times-past, last-in}
 use Rattle.format.specs.Geometry.{Geometry, sectors, Next, stop, go, off, Disc, sector}
 use Rattle.format.specs.GeometryLaws.{OnDisc, pointed-on, pointed-only, pointed-none}
-use Rattle.format.specs.Layout.{linkPlace, linkOf, met, ends}
+use Rattle.format.specs.Layout.{linkOffset, linkOf, met, ends}
 
 module _ (G : Geometry) (d : Disc) where
   -- ---- the cases of a walk
@@ -130,7 +130,8 @@ module _ {G : Geometry} {d : Disc} (d′ : Disc) where
 -- ---- the same sectors chained on two discs: their links have the same bytes, but for the track byte of the last
 
 pub chains-alike : {G : Geometry} {d d′ : Disc} {p p′ : Next} {ns : List ℕ} → 0 < G .perTrack → Chain G d p ns → Chain G d′ p′ ns → (n : ℕ) → 0 < times n ns
-    → (byte (sector d′ n) (linkPlace + 1) ≡ byte (sector d n) (linkPlace + 1)) × (n ≢ lastOr 0 ns → byte (sector d′ n) linkPlace ≡ byte (sector d n) linkPlace)
+    → (byte (sector d′ n) (linkOffset + 1) ≡ byte (sector d n) (linkOffset + 1))
+    × (n ≢ lastOr 0 ns → byte (sector d′ n) linkOffset ≡ byte (sector d n) linkOffset)
 chains-alike h (end e) (end e′) n i = absurd (omega (arith, times-none n))
 chains-alike {G} {d} {d′} h (on {n = m} e (end q)) (on e′ (end q′)) n i =
     let n-is : n ≡ m = elim (ℕ-discrete n m) [ yes w ↦ w | no w ↦ absurd (omega (arith, times-past n m [] w, times-none n)) ] in

@@ -9,7 +9,7 @@ use lib.Dec.{eqb, leb}
 use Rattle.lists.specs.Lists.{byte, all, any, elem, distinct, same, range, sum, lastOr}
 use Rattle.format.specs.Refusals.{Try, refused, ok, _>>_, refuse_if_}
 use Rattle.format.specs.Geometry.{Geometry, sectors, Next, stop, go, off, Disc, sector}
-use Rattle.format.specs.Layout.{inUsePlace, Slot, inUse, nameOf, lengthOf, attributeOf, isAttribute, slotsAt, usedCount, freeCount, chainEnds}
+use Rattle.format.specs.Layout.{inUseOffset, Slot, inUse, nameOf, lengthOf, attributeOf, isAttribute, slotsAt, usedCount, freeCount, chainEnds}
 use Rattle.format.specs.Layout.{directoryPointer, freePointer, directory, free, entries, firstOf, lastOf, fileChain, fileSectors, places}
 use Rattle.format.specs.Names.{legalStored}
 
@@ -50,7 +50,7 @@ module _ (G : Geometry) (d : Disc) where
 
   -- "byte 2 is the number of slots that aren't free"
   unfoldable pub counted : ℕ → Bool
-  counted n = eqb (byte (sector d n) inUsePlace) (length (inUse (slotsAt d n)))
+  counted n = eqb (byte (sector d n) inUseOffset) (length (inUse (slotsAt d n)))
 
   -- 3. "In each directory sector, byte 2 is the number of slots that aren't free; each entry has .."
   unfoldable pub rule3 : Bool

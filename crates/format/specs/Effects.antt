@@ -9,7 +9,7 @@ use lib.ListN.{length, take, drop, replicate}
 use lib.Seq.{sets}
 use Rattle.lists.specs.Lists.{isSome, byte, word, filter, elem, range, joined, sum, lastOr}
 use Rattle.format.specs.Geometry.{Geometry, sectors, sectorNumber, Next, stop, go, Disc, sector, Write, written}
-use Rattle.format.specs.Layout.{freePlace, directoryPlace, freeCountPlace, discNamePlace, versionPlace, linkPlace, inUsePlace, system}
+use Rattle.format.specs.Layout.{freeOffset, directoryOffset, freeCountOffset, discNameOffset, versionOffset, linkOffset, inUseOffset, system}
 use Rattle.format.specs.Layout.{freeCount, usedCount, discNameOf, attribute, Slot, slotStart, emptySlot, nameOf, lengthOf, attributeOf, linkOf}
 use Rattle.format.specs.Layout.{linkBytes, pairBytes, freePointer, directory, free, entries, openSlot, firstOf, fileChain, fileSectors}
 use Rattle.format.specs.Modules.{Module, sectorsFor, bodies, plain}
@@ -20,17 +20,17 @@ use Rattle.format.specs.Modules.{Module, sectorsFor, bodies, plain}
 abbrev pub body : List ℕ → List ℕ
 body s = drop 2 s
 
--- the directory sector of a slot with bytes stored from place k of the slot on: "Rename and protect write the entry's directory sector, changed or not."
+-- the directory sector of a slot with bytes stored from offset k of the slot on: "Rename and protect write the entry's directory sector, changed or not."
 abbrev pub slotWrite : Disc → Slot → ℕ → List ℕ → Write
 slotWrite d s k xs = record { at = s .home; bytes = sets (sector d (s .home)) (slotStart (s .index) + k) xs }
 
 -- a directory sector's bytes with n entries in use, and xs in slot i; "13 bytes that we ignore and keep" stay
 unfoldable pub withSlot : List ℕ → ℕ → ℕ → List ℕ → List ℕ
-withSlot s i n xs = sets (sets s inUsePlace (n ∷ [])) (slotStart i) xs
+withSlot s i n xs = sets (sets s inUseOffset (n ∷ [])) (slotStart i) xs
 
 -- a sector's bytes with another link
 abbrev pub withLink : List ℕ → List ℕ → List ℕ
-withLink s link = sets s linkPlace link
+withLink s link = sets s linkOffset link
 
 -- the directory sector of a slot with the whole slot stored, and n entries in use
 abbrev pub entryWrite : Disc → Slot → ℕ → List ℕ → Write
@@ -54,7 +54,7 @@ module _ (G : Geometry) where
 
   -- the system sector with another free pointer and other counts
   unfoldable pub systemWrite : Disc → Next → (freeNow usedNow : ℕ) → Write
-  systemWrite d p freeNow usedNow = record { at = 0; bytes = sets (sets (system d) freePlace (pairBytes G p)) freeCountPlace (word freeNow ++ word usedNow) }
+  systemWrite d p freeNow usedNow = record { at = 0; bytes = sets (sets (system d) freeOffset (pairBytes G p)) freeCountOffset (word freeNow ++ word usedNow) }
 
   -- ---- save
 
@@ -74,7 +74,7 @@ module _ (G : Geometry) where
   -- sector is all zeros but for its count and its first entry, and is linked from the last one." In this order: "last the directory sector with the
   -- new entry, or, where the directory grows, the new directory sector and then the one that links to it".
   unfoldable pub entryWrites : Disc → (entry : List ℕ) → (new : ℕ) → Option Slot → List Write
-  entryWrites d e new (some s) = entryWrite d s (byte (sector d (s .home)) inUsePlace + 1) e ∷ []
+  entryWrites d e new (some s) = entryWrite d s (byte (sector d (s .home)) inUseOffset + 1) e ∷ []
   entryWrites d e new none =
       let last = lastOr 0 (directory G d) in
       record { at = new; bytes = withSlot (replicate 256 0) 0 1 e } ∷ record { at = last; bytes = withLink (sector d last) (linkBytes G (go new)) } ∷ []
@@ -99,7 +99,7 @@ module _ (G : Geometry) where
   unfoldable pub deleteWrites : Disc → Slot → List Write
   deleteWrites d s =
       let last = lastOr 0 (fileChain G d s) in
-      entryWrite d s (byte (sector d (s .home)) inUsePlace - 1) emptySlot
+      entryWrite d s (byte (sector d (s .home)) inUseOffset - 1) emptySlot
       ∷ record { at = last; bytes = withLink (sector d last) (linkBytes G (freePointer G d)) }
       ∷ systemWrite d (firstOf G s) (freeCount d + lengthOf s) (usedCount d - lengthOf s)
       ∷ []
@@ -139,11 +139,11 @@ module _ (G : Geometry) where
   -- "all zeros, then directory pointer 0/4, counts 10T - 2 and 0, name padded with spaces, version .."; "Bytes $0-$F stay zero"
   unfoldable pub blankSystem : (nine : List ℕ) → List ℕ
   blankSystem nine =
-      let freed = sets (replicate 256 0) freePlace (pairBytes G (headOf blankFree)) in
-      let pointed = sets freed directoryPlace (pairBytes G (go blankDirectory)) in
-      let counted = sets pointed freeCountPlace (word (sectors G - 2) ++ word 0) in
-      let named = sets counted discNamePlace nine in
-      sets named versionPlace version
+      let freed = sets (replicate 256 0) freeOffset (pairBytes G (headOf blankFree)) in
+      let pointed = sets freed directoryOffset (pairBytes G (go blankDirectory)) in
+      let counted = sets pointed freeCountOffset (word (sectors G - 2) ++ word 0) in
+      let named = sets counted discNameOffset nine in
+      sets named versionOffset version
 
   -- the whole disc
   unfoldable pub blankDisc : (nine : List ℕ) → Disc

@@ -416,7 +416,7 @@ chunks-sets N image n k (v ∷ vs) hn hk =
     ∙ ap (λ (x : Disc). set x n (sets (sector x n) (suc k) vs)) e
     ∙ sector-again d n (suc k) (set (sector d n) k v) vs (omega (arith, chunks-many N image))
 
--- bytes stored from place k of sector n on
+-- bytes stored from offset k of sector n on
 pub sets-cut : (F : Format) (G : Geometry) → Arranged F G → (image : List ℕ) (n k : ℕ) (vs : List ℕ) → n < sectors G → k + length vs ≤ 256
     → cut F G (sets image (startOf F G n + k) vs) ≡ set (cut F G image) n (sets (sector (cut F G image) n) k vs)
 unfolding cut

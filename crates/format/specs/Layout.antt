@@ -13,33 +13,33 @@ use Rattle.format.specs.Geometry.{Geometry, sectors, Next, stop, go, off
 -- ---- where things stand in a sector
 
 -- "free pointer in bytes $10 (sector), $11 (track); directory pointer in $12 (sector), $13 (track)"
-abbrev pub freePlace : ℕ
-freePlace = 0x10
+abbrev pub freeOffset : ℕ
+freeOffset = 0x10
 
-abbrev pub directoryPlace : ℕ
-directoryPlace = 0x12
+abbrev pub directoryOffset : ℕ
+directoryOffset = 0x12
 
 -- "free count in $14-$15, used count in $16-$17, low byte first"
-abbrev pub freeCountPlace : ℕ
-freeCountPlace = 0x14
+abbrev pub freeCountOffset : ℕ
+freeCountOffset = 0x14
 
-abbrev pub usedCountPlace : ℕ
-usedCountPlace = 0x16
+abbrev pub usedCountOffset : ℕ
+usedCountOffset = 0x16
 
 -- "disc name in $18-$20; version in $40-$5F"
-abbrev pub discNamePlace : ℕ
-discNamePlace = 0x18
+abbrev pub discNameOffset : ℕ
+discNameOffset = 0x18
 
-abbrev pub versionPlace : ℕ
-versionPlace = 0x40
+abbrev pub versionOffset : ℕ
+versionOffset = 0x40
 
 -- "Every other sector begins with its link"
-abbrev pub linkPlace : ℕ
-linkPlace = 0
+abbrev pub linkOffset : ℕ
+linkOffset = 0
 
 -- "Directory sector: link, byte 2 the number of entries in use"
-abbrev pub inUsePlace : ℕ
-inUsePlace = 2
+abbrev pub inUseOffset : ℕ
+inUseOffset = 2
 
 -- "then 15 slots of 16 bytes from byte 3, then 13 bytes that we ignore and keep"
 abbrev pub slotsEach : ℕ
@@ -49,20 +49,20 @@ abbrev pub slotStart : ℕ → ℕ
 slotStart i = 3 + 16 * i
 
 -- "An entry: 6 name, 3 extension, 2 length in sectors (low first), first sector and track, last sector and track, attribute."
-abbrev pub namePlace : ℕ
-namePlace = 0
+abbrev pub nameOffset : ℕ
+nameOffset = 0
 
-abbrev pub lengthPlace : ℕ
-lengthPlace = 9
+abbrev pub lengthOffset : ℕ
+lengthOffset = 9
 
-abbrev pub firstPlace : ℕ
-firstPlace = 11
+abbrev pub firstOffset : ℕ
+firstOffset = 11
 
-abbrev pub lastPlace : ℕ
-lastPlace = 13
+abbrev pub lastOffset : ℕ
+lastOffset = 13
 
-abbrev pub attributePlace : ℕ
-attributePlace = 15
+abbrev pub attributeOffset : ℕ
+attributeOffset = 15
 
 -- ---- the system sector, 0/1
 
@@ -72,17 +72,17 @@ system d = sector d 0
 
 -- the free count as it stands
 abbrev pub freeCount : Disc → ℕ
-freeCount d = wordAt (system d) freeCountPlace
+freeCount d = wordAt (system d) freeCountOffset
 
 -- the used count as it stands
 abbrev pub usedCount : Disc → ℕ
-usedCount d = wordAt (system d) usedCountPlace
+usedCount d = wordAt (system d) usedCountOffset
 
 -- the nine bytes of the disc name as they stand
 abbrev pub discNameOf : Disc → List ℕ
-discNameOf d = take 9 (drop discNamePlace (system d))
+discNameOf d = take 9 (drop discNameOffset (system d))
 
--- ---- the attribute: the only place that knows its values
+-- ---- the attribute: the only part that knows its values
 
 -- "The attribute is $00, or $80 when protected."
 abbrev pub attribute : Bool → ℕ
@@ -103,7 +103,7 @@ protectedAs on a = attribute on
 
 -- ---- slots and entries
 
--- One of "15 slots of 16 bytes": its directory sector, its place there from 0 on, its bytes.
+-- One of "15 slots of 16 bytes": its directory sector, its index there from 0 on, its bytes.
 pub record Slot : Type 0 where
   pub home : ℕ
   pub index : ℕ
@@ -123,15 +123,15 @@ inUse ss = filter (λ s. not (freeSlot s)) ss
 
 -- the nine name bytes of an entry
 abbrev pub nameOf : Slot → List ℕ
-nameOf s = take 9 (drop namePlace (s .bytes))
+nameOf s = take 9 (drop nameOffset (s .bytes))
 
 -- its length in sectors
 abbrev pub lengthOf : Slot → ℕ
-lengthOf s = wordAt (s .bytes) lengthPlace
+lengthOf s = wordAt (s .bytes) lengthOffset
 
 -- its attribute
 abbrev pub attributeOf : Slot → ℕ
-attributeOf s = byte (s .bytes) attributePlace
+attributeOf s = byte (s .bytes) attributeOffset
 
 -- slot i of directory sector n
 unfoldable pub slotAt : Disc → ℕ → ℕ → Slot
@@ -178,7 +178,7 @@ module _ (G : Geometry) where
 
   -- where a sector's link leads
   abbrev pub linkOf : List ℕ → Next
-  linkOf s = linkAt s linkPlace
+  linkOf s = linkAt s linkOffset
 
   -- ---- chains
 
@@ -210,11 +210,11 @@ module _ (G : Geometry) where
 
   -- where the free pointer leads
   abbrev pub freePointer : Disc → Next
-  freePointer d = pairAt (system d) freePlace
+  freePointer d = pairAt (system d) freeOffset
 
   -- where the directory pointer leads
   abbrev pub directoryPointer : Disc → Next
-  directoryPointer d = pairAt (system d) directoryPlace
+  directoryPointer d = pairAt (system d) directoryOffset
 
   -- the sectors of the directory
   unfoldable pub directory : Disc → List ℕ
@@ -242,11 +242,11 @@ module _ (G : Geometry) where
 
   -- an entry's first sector
   abbrev pub firstOf : Slot → Next
-  firstOf s = pairAt (s .bytes) firstPlace
+  firstOf s = pairAt (s .bytes) firstOffset
 
   -- an entry's last sector
   abbrev pub lastOf : Slot → Next
-  lastOf s = pairAt (s .bytes) lastPlace
+  lastOf s = pairAt (s .bytes) lastOffset
 
   -- "Each file's chain starts at its first sector"
   unfoldable pub fileChain : Disc → Slot → List ℕ

@@ -7,6 +7,7 @@ pub mod Formats
 pub mod Names
 pub mod NameLaws
 pub mod Layout
+pub mod SlotLaws
 pub mod ChainLaws
 pub mod Check
 pub mod CheckLaws

@@ -1,5 +1,5 @@
--- Laws of Modules: the sizes of a module's sectors, and refusal 9 in both directions: the sectors of an allowed module are read back as it,
--- and what is read is an allowed module with just these sectors.
+-- Laws of Modules: the sizes of a module's sectors, and refusal 9 in both directions: the sectors of a module are read back as it, and what
+-- is read is a module with just these sectors.
 -- Assumes nothing.
 use mathlib.Core.Path.{_≡_, refl, sym, ap, ap₂, _∙_}
 use Prim.Native.Nat.{ℕ, zero, suc, _+_, _*_, _/_, _%_, _-_, _≤_, _<_}
@@ -13,26 +13,30 @@ use lib.Dec.{leb}
 use borrow.Author.Tests.{le-leb, lt-leb, leb-true, leb-false}
 use Rattle.lists.specs.Lists.{joined, word, sameAll}
 use Rattle.lists.specs.ListLaws.{and-true, true-and, All, done, _also_, sameAll-refl, sameAll-true, padded-long}
-use Rattle.format.specs.Modules.{Module, endOf, allowed, sectorsFor, laterBody, laterBodies, firstBody, bodies, guessed, plain}
+use Rattle.format.specs.Modules.{Module, endOf, isModule, storable, sectorsFor, laterBody, laterBodies, firstBody, bodies, guessed, plain}
 
--- ---- refusal 7
+-- ---- what a module is
 
--- what an allowed module is
-pub record Allowed (m : Module) : Type 0 where
+pub record IsModule (m : Module) : Type 0 where
   pub pages : m .page ≤ 7
   pub some-byte : 1 ≤ length (m .bytes)
   pub within : m .start + length (m .bytes) ≤ 65536
 
-pub allowed-true : (m : Module) → allowed m ≡ true → Allowed m
-unfolding allowed
-allowed-true m e =
+pub module-true : (m : Module) → isModule m ≡ true → IsModule m
+unfolding isModule
+module-true m e =
     let h = and-true (leb (m .page) 7 && leb 1 (length (m .bytes))) (leb (m .start + length (m .bytes)) 65536) e in
     let k = and-true (leb (m .page) 7) (leb 1 (length (m .bytes))) (h .0) in
     record { pages = leb-true _ _ (k .0); some-byte = leb-true _ _ (k .1); within = leb-true _ _ (h .1) }
 
-pub true-allowed : (m : Module) → Allowed m → allowed m ≡ true
-unfolding allowed
-true-allowed m a = true-and (true-and (le-leb _ _ (a .pages)) (le-leb _ _ (a .some-byte))) (le-leb _ _ (a .within))
+pub true-module : (m : Module) → IsModule m → isModule m ≡ true
+unfolding isModule
+true-module m a = true-and (true-and (le-leb _ _ (a .pages)) (le-leb _ _ (a .some-byte))) (le-leb _ _ (a .within))
+
+-- refusal 7: what a save may store is a module
+pub storable-module : (m : Module) → storable m ≡ true → isModule m ≡ true
+unfolding storable
+storable-module m e = e
 
 -- ---- how many sectors, and how long
 
@@ -103,7 +107,7 @@ later (suc n) xs h =
 word-back : (n : ℕ) → n < 65536 → n % 256 + 256 * (n / 256 % 256) ≡ n
 word-back n h = omega arith
 
-guess-right : (m : Module) → Allowed m → m .transfer < 65536 → guessed (bodies m) ≡ m
+guess-right : (m : Module) → IsModule m → m .transfer < 65536 → guessed (bodies m) ≡ m
 unfolding guessed bodies firstBody
 guess-right m a h =
     let L : ℕ = length (m .bytes) in
@@ -120,22 +124,22 @@ guess-right m a h =
     ap₂ (λ (a b : ℕ). take a (take 245 (m .bytes) ++ replicate b 0 ++ ys)) size room ∙ filled 245 (m .bytes) ys (later n (drop 245 (m .bytes)) short) in
     λ i. record { page = m .page; start = s i; transfer = t i; bytes = got i }
 
--- the sectors of an allowed module are read back as it
-pub plain-bodies : (m : Module) → m .transfer < 65536 → allowed m ≡ true → plain (bodies m) ≡ some m
+-- the sectors of a module are read back as it
+pub plain-bodies : (m : Module) → m .transfer < 65536 → isModule m ≡ true → plain (bodies m) ≡ some m
 unfolding plain
 plain-bodies m h a =
-    ap (λ (g : Module). cond (allowed g && sameAll (bodies g) (bodies m)) (some g) none) (guess-right m (allowed-true m a) h)
+    ap (λ (g : Module). cond (isModule g && sameAll (bodies g) (bodies m)) (some g) none) (guess-right m (module-true m a) h)
     ∙ ap (λ (b : Bool). cond b (some m) none) (true-and a (sameAll-refl (bodies m)))
 
--- and what is read is an allowed module whose sectors these are
-pub plain-only : (bs : List (List ℕ)) (m : Module) → plain bs ≡ some m → (allowed m ≡ true) × (bodies m ≡ bs)
+-- and what is read is a module whose sectors these are
+pub plain-only : (bs : List (List ℕ)) (m : Module) → plain bs ≡ some m → (isModule m ≡ true) × (bodies m ≡ bs)
 unfolding plain
-plain-only bs m p = case (allowed (guessed bs) && sameAll (bodies (guessed bs)) bs) refl p
+plain-only bs m p = case (isModule (guessed bs) && sameAll (bodies (guessed bs)) bs) refl p
   where
-    case : (b : Bool) → allowed (guessed bs) && sameAll (bodies (guessed bs)) bs ≡ b → cond b (some (guessed bs)) none ≡ some m
-        → (allowed m ≡ true) × (bodies m ≡ bs)
+    case : (b : Bool) → isModule (guessed bs) && sameAll (bodies (guessed bs)) bs ≡ b → cond b (some (guessed bs)) none ≡ some m
+        → (isModule m ≡ true) × (bodies m ≡ bs)
     case true e q =
         let is : guessed bs ≡ m = cc in
-        let h = and-true (allowed (guessed bs)) (sameAll (bodies (guessed bs)) bs) e in
-        (ap allowed (sym is) ∙ h .0, ap bodies (sym is) ∙ sameAll-true (bodies (guessed bs)) bs (h .1))
+        let h = and-true (isModule (guessed bs)) (sameAll (bodies (guessed bs)) bs) e in
+        (ap isModule (sym is) ∙ h .0, ap bodies (sym is) ∙ sameAll-true (bodies (guessed bs)) bs (h .1))
     case false e q = let z : _≡_ {A = ℕ} 0 1 = cc in absurd (omega arith)

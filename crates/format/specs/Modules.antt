@@ -19,9 +19,13 @@ pub record Module : Type 0 where
 abbrev pub endOf : Module → ℕ
 endOf m = m .start + length (m .bytes) - 1
 
--- "page 0 to 7 .. 1 ≤ L ≤ 65,536 - start"; otherwise refusal 7
-unfoldable pub allowed : Module → Bool
-allowed m = leb (m .page) 7 && leb 1 (length (m .bytes)) && leb (m .start + length (m .bytes)) 65536
+-- "page 0 to 7 .. 1 ≤ L ≤ 65,536 - start": what a stored module is
+unfoldable pub isModule : Module → Bool
+isModule m = leb (m .page) 7 && leb 1 (length (m .bytes)) && leb (m .start + length (m .bytes)) 65536
+
+-- Refusal 7, "page or L out of range": what a save may store
+unfoldable pub storable : Module → Bool
+storable m = isModule m
 
 -- "a module takes 1 sector for L ≤ 245, otherwise 1 + (L - 245)/253 rounded up"
 unfoldable pub sectorsFor : ℕ → ℕ
@@ -59,6 +63,6 @@ guessed (b ∷ bs) =
     }
 
 -- Refusal 9, "links apart, the file's sectors aren't byte for byte those of any load module above": the module whose sectors these
--- are, or none. (the laws `plain-bodies` and `plain-only`: every allowed module is found, and no other)
+-- are, or none. (the laws `plain-bodies` and `plain-only`: every module is found, and nothing else)
 unfoldable pub plain : List (List ℕ) → Option Module
-plain bs = let m = guessed bs in cond (allowed m && sameAll (bodies m) bs) (some m) none
+plain bs = let m = guessed bs in cond (isModule m && sameAll (bodies m) bs) (some m) none

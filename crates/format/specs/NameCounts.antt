@@ -10,7 +10,6 @@ use lib.ListN.{length, length-append}
 use borrow.Author.Tests.{not-true}
 use Rattle.lists.specs.Lists.{any, same, filter}
 use Rattle.lists.specs.ListLaws.{and-true, true-and, filter-join, filter-yes, filter-no, equal, unequal, same-or-not, true-same}
-use borrow.Author.Tests.{not-true}
 use Rattle.format.specs.Layout.{Slot, nameOf}
 use Rattle.format.specs.Check.{differ}
 

@@ -9,10 +9,12 @@ use lib.ListN.{length}
 use lib.Dec.{leb}
 use borrow.Author.Tests.{le-leb, leb-true, ne-eqb, eqb-true, eq-eqb}
 use Rattle.lists.specs.Lists.{byte, elem, sum, times, lastOr}
-use Rattle.lists.specs.ListLaws.{and-true, true-and, All, all-map, all-true, true-all, elem-times, times-elem, distinct-once, once-distinct, all-range, range-all}
+use Rattle.lists.specs.ListLaws.{and-true, true-and, All, all-map, all-true, true-all, all-range, range-all}
+use Rattle.lists.specs.ListLaws.{elem-times, times-elem, distinct-once, once-distinct}
 use Rattle.format.specs.Geometry.{Geometry, sectors, Next, stop, go, off, Disc, sector}
 use Rattle.format.specs.Names.{legalStored}
-use Rattle.format.specs.Layout.{inUsePlace, isAttribute, Slot, inUse, nameOf, lengthOf, attributeOf, slotsAt, freeCount, usedCount, directoryPointer, freePointer, directory, free, entries, firstOf, lastOf, fileChain, fileSectors, places}
+use Rattle.format.specs.Layout.{inUseOffset, isAttribute, Slot, inUse, nameOf, lengthOf, attributeOf, slotsAt, freeCount, usedCount}
+use Rattle.format.specs.Layout.{directoryPointer, freePointer, directory, free, entries, firstOf, lastOf, fileChain, fileSectors, places}
 use Rattle.format.specs.ChainLaws.{met-few, Chain, ends-chain, chain-ends}
 use Rattle.format.specs.Check.{at?, elsewhere, goodEntry, rule1, rule2, counted, rule3, rule4, goodChain, rule5, rule6, rule7, rule8}
 use Rattle.format.specs.NameCounts.{called, differ-few, few-differ}
@@ -70,7 +72,7 @@ module _ (G : Geometry) (d : Disc) (s : Slot) where
 
 -- byte 2 of a directory sector counts its entries
 abbrev pub Counted : Disc → ℕ → Type 0
-Counted d n = byte (sector d n) inUsePlace ≡ length (inUse (slotsAt d n))
+Counted d n = byte (sector d n) inUseOffset ≡ length (inUse (slotsAt d n))
 
 -- no number stands in the list twice
 abbrev pub Apart : List ℕ → Type 0

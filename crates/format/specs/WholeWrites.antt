@@ -16,7 +16,7 @@ use Rattle.lists.specs.ListLaws.{All, done, _also_, all-join}
 use Rattle.format.specs.Refusals.{ok}
 use Rattle.format.specs.Geometry.{Geometry, sectors, Disc, sector, Next, go, Write, written}
 use Rattle.format.specs.GeometryLaws.{Full, full-set, sector-full}
-use Rattle.format.specs.Layout.{namePlace, attributePlace, attributeOf, protectedAs, Slot, linkPlace}
+use Rattle.format.specs.Layout.{nameOffset, attributeOffset, attributeOf, protectedAs, Slot, linkOffset}
 use Rattle.format.specs.Layout.{linkBytes, freePointer, directory, fileChain, openSlot, slotStart, emptySlot}
 use Rattle.format.specs.Modules.{Module}
 use Rattle.format.specs.ModuleLaws.{bodies-254}
@@ -63,7 +63,7 @@ module _ (G : Geometry) where
     system-whole p a b l = simp length-sets (sector-full f 0 l)
 
     link-whole : (n : ℕ) (link : List ℕ) → Whole G (record { at = n; bytes = withLink (sector d n) link })
-    link-whole n link l = length-sets (sector d n) linkPlace link ∙ sector-full f n l
+    link-whole n link l = length-sets (sector d n) linkOffset link ∙ sector-full f n l
 
     new-whole : (n : ℕ) (e : List ℕ) → Whole G (record { at = n; bytes = withSlot (replicate 256 0) 0 1 e })
     new-whole n e l = withSlot-long (replicate 256 0) 0 1 e
@@ -104,12 +104,12 @@ module _ (G : Geometry) where
     delete-whole name ws p = let s = delete-ok G d name ws p in subst (All (Whole G)) (s .writes) (deleted-whole (s .s))
 
     pub rename-whole : (old new : List ℕ) (ws : List Write) → renameOn G d old new ≡ ok ws → All (Whole G) ws
-    rename-whole old new ws p = let s = rename-ok G d old new ws p in subst (All (Whole G)) (s .writes) (slot-whole (s .s) namePlace (s .nine′) also done)
+    rename-whole old new ws p = let s = rename-ok G d old new ws p in subst (All (Whole G)) (s .writes) (slot-whole (s .s) nameOffset (s .nine′) also done)
 
     pub protect-whole : (name : List ℕ) (on : ℕ) (ws : List Write) → protectOn G d name on ≡ ok ws → All (Whole G) ws
     protect-whole name on ws p =
         let s = protect-ok G d name on ws p in
-        subst (All (Whole G)) (s .writes) (slot-whole (s .s) attributePlace (protectedAs (not (eqb on 0)) (attributeOf (s .s)) ∷ []) also done)
+        subst (All (Whole G)) (s .writes) (slot-whole (s .s) attributeOffset (protectedAs (not (eqb on 0)) (attributeOf (s .s)) ∷ []) also done)
 
     pub repair-whole : (ws : List Write) → repairOn G d ≡ ok ws → All (Whole G) ws
     repair-whole ws p = subst (All (Whole G)) (repair-ok G d ws p .1) repaired-whole

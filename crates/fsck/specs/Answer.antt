@@ -36,11 +36,13 @@ module _ (F : Format) (image : List ℕ) where
   unfolding afterCheck checkAnswerBy asked _>>=_ number valueOr
   after-size e = ap (λ (t : Try Refusal Geometry). checkAnswerBy (t >>= (λ G. ok (broken G (cut F G image))))) e
 
-  on-geometry : (G : Geometry) → geometry F (length image) ≡ ok G → (k : ℕ) → broken G (cut F G image) ≡ k → afterCheck F image ≡ record { number = 0; rule = k }
+  on-geometry : (G : Geometry) → geometry F (length image) ≡ ok G → (k : ℕ) → broken G (cut F G image) ≡ k
+      → afterCheck F image ≡ record { number = 0; rule = k }
   unfolding afterCheck checkAnswerBy asked _>>=_ number valueOr
   on-geometry G e k h =
       ap (λ (t : Try Refusal Geometry). checkAnswerBy (t >>= (λ G. ok (broken G (cut F G image))))) e
       ∙ ap (λ (x : ℕ). checkAnswerBy (ok x)) h
 
-pub after-rule : {F : Format} {g : code.Geometry} {image : List ℕ} → Opened F g image → (j : ℕ) → broken (geo g) (sectorsOf g image) ≡ j → afterCheck F image ≡ record { number = 0; rule = j }
+pub after-rule : {F : Format} {g : code.Geometry} {image : List ℕ} → Opened F g image → (j : ℕ) → broken (geo g) (sectorsOf g image) ≡ j
+    → afterCheck F image ≡ record { number = 0; rule = j }
 after-rule {g = g} {image = image} o j h = ap (λ (F : Format). afterCheck F image) (o .kind-is) ∙ on-geometry (form g) image (geo g) (o .geometry-is) j h

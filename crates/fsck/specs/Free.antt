@@ -1,17 +1,20 @@
 -- Rules 6 and 8: the free chain, and the sectors that have a mark.
 -- Assumes nothing.
-use mathlib.Core.Path.{_≡_, sym, ap, ap₂, _∙_, subst}
-use Prim.Native.Nat.{ℕ, suc, _+_, _-_, _≤_, _<_}
+use mathlib.Core.Path.{_≡_, refl, sym, ap, ap₂, _∙_, subst}
+use Prim.Native.Nat.{ℕ, suc, min, _+_, _-_, _≤_, _<_}
 use native.Mathlib.Omega.{arith}
-use mathlib.Core.Bool.{Bool, true, false, _&&_, false≢true}
+use native.Mathlib.Decide.{decLe}
+use native.Mathlib.Nat.{lt-of-not-le}
+use mathlib.Core.Bool.{Bool, true, false, not, _&&_, and-true, and-assoc, false≢true}
 use mathlib.Core.List.{List}
-use lib.ListN.{length}
+use lib.ListN.{length, getD}
 use lib.Dec.{eqb}
+use borrow.Author.Tests.{eq-eqb, ne-eqb, eqb-true, eqb-false}
 use Rattle.lists.specs.Lists.{all, range}
 use Rattle.format.specs.Geometry.{Geometry, Next, Disc}
 use Rattle.format.specs.Layout.{freeCount, chain, chainEnds, freePointer, free}
 use Rattle.geometry.specs.declared.SectorNo.{SectorNo}
-use Rattle.fsck_chains.specs.Marks.{marked, fresh}
+use Rattle.fsck_chains.specs.Marks.{marked, fresh, clear}
 use Rattle.fsck_chains.specs.Walks.{Walked, ended, walk-broken, walk-ended}
 use Rattle.fsck_chains.specs.declared.Followed.{Followed}
 use Rattle.fsck_chains.specs.declared.Followed.the-variants.{Ended, Broken}
@@ -49,21 +52,34 @@ module _ (G : Geometry) (d : Disc) {p : Next} (first : p ≡ freePointer G d) {m
         marks = λ _. walked .marks (ended e);
       }
 
--- ---- a test of each number from n to total - 1
+-- ---- the marks of the sectors from n to total - 1, where `least` is the least of 1 and the marks before
 
-module _ (P : ℕ → Bool) (total n : ℕ) {b : Bool} (i : all P (range n (total - n)) ≡ b) where
-  pub range-over : total ≤ n → true ≡ b
-  range-over h = let e : total - n ≡ 0 = omega arith in ap (λ (k : ℕ). all P (range n k)) (sym e) ∙ i
+min-some : (a b : ℕ) → not (eqb (min a b) 0) ≡ not (eqb a 0) && not (eqb b 0)
+min-some a b = by (eqb a 0) (eqb b 0) refl refl
+  where
+    by : (x y : Bool) → eqb a 0 ≡ x → eqb b 0 ≡ y → not (eqb (min a b) 0) ≡ not x && not y
+    by true y e f = let none : min a b ≡ 0 = omega (arith, eqb-true a 0 e) in ap not (eq-eqb (min a b) 0 none)
+    by false true e f = let none : min a b ≡ 0 = omega (arith, eqb-true b 0 f) in ap not (eq-eqb (min a b) 0 none)
+    by false false e f = ap not (ne-eqb (min a b) 0 (λ q. elim (decLe a b) [
+      | yes h ↦ eqb-false a 0 e (omega arith)
+      | no h ↦ eqb-false b 0 f (omega (arith, lt-of-not-le h))
+    ]))
 
-  module _ (h : n < total) where
-    turn : P n && all P (range (n + 1) (total - (n + 1))) ≡ b
-    turn =
-        let e : total - n ≡ suc (total - (n + 1)) = omega arith in
-        let f : suc n ≡ n + 1 = omega arith in
-        sym (ap (λ (k : ℕ). all P (range n k)) e ∙ ap (λ (k : ℕ). P n && all P (range k (total - (n + 1)))) f) ∙ i
+module _ (m : List ℕ) (total n least : ℕ) {b : Bool} (i : not (eqb least 0) && all (λ k. not (clear m k)) (range n (total - n)) ≡ b) where
+  pub marks-over : total ≤ n → not (eqb least 0) ≡ b
+  marks-over h =
+      let e : total - n ≡ 0 = omega arith in
+      sym (ap (λ (k : ℕ). not (eqb least 0) && all (λ k. not (clear m k)) (range n k)) e ∙ and-true (not (eqb least 0))) ∙ i
 
-    pub range-not : P n ≡ false → false ≡ b
-    range-not e = ap (λ (x : Bool). x && all P (range (n + 1) (total - (n + 1)))) (sym e) ∙ turn
-
-    pub range-next : P n ≡ true → all P (range (n + 1) (total - (n + 1))) ≡ b
-    range-next e = ap (λ (x : Bool). x && all P (range (n + 1) (total - (n + 1)))) (sym e) ∙ turn
+  pub marks-next : n < total → {now : ℕ} → now ≡ min least (getD m n 0)
+      → not (eqb now 0) && all (λ k. not (clear m k)) (range (n + 1) (total - (n + 1))) ≡ b
+  marks-next h is =
+      let rest : Bool = all (λ k. not (clear m k)) (range (n + 1) (total - (n + 1))) in
+      let e : total - n ≡ suc (total - (n + 1)) = omega arith in
+      let f : suc n ≡ n + 1 = omega arith in
+      ap (λ (k : ℕ). not (eqb k 0) && rest) is
+      ∙ ap (λ (c : Bool). c && rest) (min-some least (getD m n 0))
+      ∙ and-assoc (not (eqb least 0)) (not (clear m n)) rest
+      ∙ sym (ap (λ (k : ℕ). not (eqb least 0) && all (λ k. not (clear m k)) (range n k)) e
+      ∙ ap (λ (k : ℕ). not (eqb least 0) && (not (clear m n) && all (λ k. not (clear m k)) (range k (total - (n + 1))))) f)
+      ∙ i

@@ -12,7 +12,8 @@ use Rattle.lists.specs.Lists.{all, elem, distinct, range, sum}
 use Rattle.lists.specs.ListLaws.{and-true, All, done, _also_, all-map, all-join, all-joined}
 use Rattle.format.specs.Geometry.{Geometry, sectors, Next, Disc}
 use Rattle.format.specs.GeometryLaws.{OnDisc, pointed-on}
-use Rattle.format.specs.Layout.{Slot, lengthOf, usedCount, freeCount, chain, chainEnds, directoryPointer, freePointer, directory, free, entries, fileChain, fileSectors, firstOf, places}
+use Rattle.format.specs.Layout.{Slot, lengthOf, usedCount, freeCount, chain, chainEnds, directoryPointer}
+use Rattle.format.specs.Layout.{freePointer, directory, free, entries, fileChain, fileSectors, firstOf, places}
 use Rattle.format.specs.ChainLaws.{met-below}
 use Rattle.format.specs.Check.{elsewhere, goodChain, rule1, rule2, rule3, rule4, rule5, rule6, rule7, rule8, broken}
 use Rattle.format.specs.CheckLaws.{RulesTo5, broken-5}
@@ -97,7 +98,7 @@ module _ {g : code.Geometry} (v : Valid g) (d : Disc) where
   abbrev G : Geometry
   G = geo g
 
-  -- ---- every sector that is met has a place among the marks
+  -- ---- every sector that is met has a mark
 
   below : (p : Next) → OnDisc G p → Below 800 (chain G d p)
   below p h = all-map (λ n l. omega (arith, v .total)) (met-below G d (sectors G) p h)
@@ -150,13 +151,14 @@ module _ {g : code.Geometry} (v : Valid g) (d : Disc) where
 
   -- ---- rule 5
 
-  module _ (r : RulesTo4 G d) {m : List ℕ} (before : m ≡ marksOf (directory G d)) {most : ℕ} {a : Files} {m′ : List ℕ} (f : FilesMet G d (entries G d) most m a m′) where
+  module _ (r : RulesTo4 G d) {m : List ℕ} (before : m ≡ marksOf (directory G d))
+      {most : ℕ} {a : Files} {m′ : List ℕ} (f : FilesMet G d (entries G d) most m a m′) where
     files-are : rule5 G d ≡ all (goodChain G d) (entries G d) && fresh m (fileSectors G d)
     unfolding rule5 rule2
     files-are =
         let once = and-true (chainEnds G d (directoryPointer G d)) (distinct (0 ∷ directory G d)) (r .r2) .1 in
-        ap (λ (b : Bool). all (goodChain G d) (entries G d) && b)
-        (sym (fresh-after (directory G d) (fileSectors G d) (all-join below-system below-directory) below-files once) ∙ ap (λ (y : List ℕ). fresh y (fileSectors G d)) (sym before))
+        let free = fresh-after (directory G d) (fileSectors G d) (all-join below-system below-directory) below-files once in
+        ap (λ (b : Bool). all (goodChain G d) (entries G d) && b) (sym free ∙ ap (λ (y : List ℕ). fresh y (fileSectors G d)) (sym before))
 
     pub rule5-bad : a ≡ Bad → Lowest G d 5
     unfolding fileSectors

@@ -30,7 +30,7 @@ fresh m (n ∷ ns) = eqb (getD m n 0) 0 && fresh (set m n 1) ns
 abbrev pub clear : List ℕ → ℕ → Bool
 clear m n = eqb (getD m n 0) 0
 
--- every sector of the list has a place among the marks
+-- every sector of the list has a mark
 abbrev pub Below : ℕ → List ℕ → Type 0
 Below N ns = All (λ n. n < N) ns
 
@@ -73,7 +73,8 @@ fresh-is : (m ns : List ℕ) → Below (length m) ns → fresh m ns ≡ distinct
 unfolding fresh
 fresh-is m [] h = refl
 fresh-is m (n ∷ ns) h =
-    ap (λ (b : Bool). clear m n && b) (fresh-is (set m n 1) ns (rw length-set (tail-of h)) ∙ ap (λ (b : Bool). distinct ns && b) (all-clear-set m ns n (head-of h)))
+    ap (λ (b : Bool). clear m n && b)
+    (fresh-is (set m n 1) ns (rw length-set (tail-of h)) ∙ ap (λ (b : Bool). distinct ns && b) (all-clear-set m ns n (head-of h)))
     ∙ regroup (clear m n) (distinct ns) (elem n ns) (all (clear m) ns)
   where
     regroup : (a b c e : Bool) → a && (b && (not c && e)) ≡ not c && b && (a && e)

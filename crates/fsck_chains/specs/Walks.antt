@@ -30,7 +30,8 @@ numbered n = record { 0 = n }
 
 -- from p on within so many steps, with the marks m, k sectors met before and the last of them l
 unfoldable pub walk : Geometry → Disc → (steps : ℕ) → Next → (m : List ℕ) (k l : ℕ) → Followed
-walk G d steps p m k l = cond (ends G d steps p && fresh m (met G d steps p)) (Ended (k + length (met G d steps p)) (numbered (lastOr l (met G d steps p)))) Broken
+walk G d steps p m k l =
+    cond (ends G d steps p && fresh m (met G d steps p)) (Ended (k + length (met G d steps p)) (numbered (lastOr l (met G d steps p)))) Broken
 
 -- what a walk along the whole chain answers, and the marks that it leaves
 pub record Walked (G : Geometry) (d : Disc) (p : Next) (m : List ℕ) (w : Followed) (m′ : List ℕ) : Type 0 where

@@ -12,11 +12,13 @@ use borrow.Author.Tests.{le-leb}
 use Rattle.lists.specs.Lists.{all, byte}
 use Rattle.lists.specs.ListLaws.{drop-take, test-join, and-exchange}
 use Rattle.format.specs.Geometry.{Geometry, Disc, sector}
-use Rattle.format.specs.Layout.{slotsEach, inUsePlace, isAttribute, Slot, freeSlot, inUse, nameOf, lengthOf, attributeOf, slotAt, slotsAt, slotsOf, directory, slots, entries}
+use Rattle.format.specs.Layout.{slotsEach, inUseOffset, isAttribute, Slot, freeSlot, inUse, nameOf}
+use Rattle.format.specs.Layout.{lengthOf, attributeOf, slotAt, slotsAt, slotsOf, directory, slots, entries}
+use Rattle.format.specs.SlotLaws.{inUse-join}
 use Rattle.format.specs.Names.{letter, space, spaced, legalStored}
 use Rattle.format.specs.Check.{goodEntry, counted, rule3}
 use Rattle.bytes.specs.Laws.{slice-over, slice-step, all-over}
-use Rattle.slots.specs.InOrder.{use-join, use-next-free, use-next-used, use-over, slotsFrom, slots-all}
+use Rattle.slots.specs.InOrder.{use-next-free, use-next-used, use-over, slotsFrom, slots-all}
 
 -- ---- letters, then spaces, from byte i to byte e of an image
 
@@ -86,7 +88,11 @@ pub record Passed (d : Disc) (n i used : ℕ) : Type 0 where
   pub good : all goodEntry (inUse (slotsFrom d n i)) ≡ all goodEntry (inUse (slotsAt d n))
 
 pub passed-none : (d : Disc) (n : ℕ) → Passed d n 0 0
-passed-none d n = record { count = omega (arith, ap (λ (ss : List Slot). length (inUse ss)) (slots-all d n)); good = ap (λ (ss : List Slot). all goodEntry (inUse ss)) (sym (slots-all d n)) }
+passed-none d n =
+    record {
+      count = omega (arith, ap (λ (ss : List Slot). length (inUse ss)) (slots-all d n));
+      good = ap (λ (ss : List Slot). all goodEntry (inUse ss)) (sym (slots-all d n));
+    }
 
 module _ {d : Disc} {n i used : ℕ} (p : Passed d n i used) where
   abbrev rest : List Slot
@@ -113,14 +119,14 @@ module _ {d : Disc} {n i used : ℕ} (p : Passed d n i used) where
           let bad : all goodEntry (inUse (slotsAt d n)) ≡ false = sym (p .good) ∙ ap (all goodEntry) left ∙ ap (λ (b : Bool). b && all goodEntry rest) e in
           sym (ap (λ (b : Bool). counted G d n && b) bad ∙ and-false (counted G d n))
 
-  pub passed-all : (G : Geometry) → slotsEach ≤ i → (b : ℕ) → b ≡ byte (sector d n) inUsePlace → eqb b used ≡ goodSector G d n
+  pub passed-all : (G : Geometry) → slotsEach ≤ i → (b : ℕ) → b ≡ byte (sector d n) inUseOffset → eqb b used ≡ goodSector G d n
   unfolding goodSector counted
   passed-all G h b e =
       let over = use-over d n i h in
       let all-used : used ≡ length (inUse (slotsAt d n)) = omega (arith, p .count, ap (λ (ss : List Slot). length ss) over) in
       let all-good : all goodEntry (inUse (slotsAt d n)) ≡ true = sym (p .good) ∙ ap (all goodEntry) over in
-      sym (ap (λ (x : Bool). eqb (byte (sector d n) inUsePlace) (length (inUse (slotsAt d n))) && x) all-good
-      ∙ and-true (eqb (byte (sector d n) inUsePlace) (length (inUse (slotsAt d n))))
+      sym (ap (λ (x : Bool). eqb (byte (sector d n) inUseOffset) (length (inUse (slotsAt d n))) && x) all-good
+      ∙ and-true (eqb (byte (sector d n) inUseOffset) (length (inUse (slotsAt d n))))
       ∙ ap₂ eqb (sym e) (sym all-used))
 
 -- ---- the directory
@@ -132,7 +138,7 @@ sectors-good G d (n ∷ ns) =
     ap (λ (b : Bool). goodSector G d n && b) (sectors-good G d ns)
     ∙ and-exchange (counted G d n) (all goodEntry (inUse (slotsAt d n))) (all (counted G d) ns) (all goodEntry (inUse (slotsOf d ns)))
     ∙ ap (λ (b : Bool). counted G d n && all (counted G d) ns && b)
-    (sym (ap (all goodEntry) (use-join (slotsAt d n) (slotsOf d ns)) ∙ test-join goodEntry (inUse (slotsAt d n)) (inUse (slotsOf d ns))))
+    (sym (ap (all goodEntry) (inUse-join (slotsAt d n) (slotsOf d ns)) ∙ test-join goodEntry (inUse (slotsAt d n)) (inUse (slotsOf d ns))))
 
 -- the directory
 pub rule3-is : (G : Geometry) (d : Disc) → all (goodSector G d) (directory G d) ≡ rule3 G d

@@ -1,5 +1,5 @@
 // Rule 3 of the check: the entries of the directory.
-use directory::Step;
+use directory::Visit;
 use geometry::Geometry;
 use geometry::SectorNo;
 ghost use mathlib.Core.Path.{_≡_};
@@ -91,7 +91,7 @@ pub fn entries_good(image: &[u8], g: Geometry) -> bool
     let mut rest = directory::start(image, g);
     loop {
         let next = directory::advance(image, g, rest);
-        let Step::Sector(n, after) = next else {
+        let Visit::Sector(n, after) = next else {
             return true;
         };
         if !sector_good(image, g, n) {

@@ -6,12 +6,12 @@ use Prim.Native.Nat.{ℕ, _+_, _≤_}
 use native.Mathlib.Omega.{arith}
 use mathlib.Core.Bool.{Bool, true, false, cond, _&&_, and-false, true≢false}
 use mathlib.Core.Bool as Bool
-use mathlib.Core.List.{List, [], _∷_, _++_, map, append-nil}
+use mathlib.Core.List.{List, [], _∷_, _++_, map, append-nil, map-append}
 use lib.ListN.{length}
 use lib.Dec.{eqb}
 use borrow.Author.Tests.{eq-eqb, ne-eqb}
 use Rattle.lists.specs.Lists.{all, joined, sum, lastOr}
-use Rattle.lists.specs.ListLaws.{and-true, map-join, joined-join, sum-join}
+use Rattle.lists.specs.ListLaws.{and-true, joined-join, sum-join}
 use Rattle.format.specs.Geometry.{Geometry, sectors, Next, Disc}
 use Rattle.format.specs.Layout.{Slot, lengthOf, chain, chainEnds, firstOf, lastOf, fileChain}
 use Rattle.format.specs.ChainLaws.{met-few}
@@ -98,13 +98,15 @@ module _ (G : Geometry) (d : Disc) (m : List ℕ) (c : ℕ) (es fs : List Slot) 
   m′ = marked m (filesOf G d es)
 
   filed-join : filed G d m c (es ++ fs)
-      ≡ cond (good-chains es && fresh m (filesOf G d es) && (good-chains fs && fresh m′ (filesOf G d fs))) (Good (c + sum (map lengthOf es) + sum (map lengthOf fs))) Bad
+      ≡ cond (good-chains es && fresh m (filesOf G d es) && (good-chains fs && fresh m′ (filesOf G d fs)))
+      (Good (c + sum (map lengthOf es) + sum (map lengthOf fs)))
+      Bad
   unfolding filed
   filed-join =
       ap₂ (λ (b : Bool) (k : ℕ). cond b (Good k) Bad)
       (ap₂ _&&_ (test-join (goodChain G d) es fs) (ap (fresh m) (joined-join (fileChain G d) es fs) ∙ fresh-join m (filesOf G d es) (filesOf G d fs))
       ∙ and-exchange (good-chains es) (good-chains fs) (fresh m (filesOf G d es)) (fresh m′ (filesOf G d fs)))
-      (omega (arith, ap sum (map-join lengthOf es fs), sum-join (map lengthOf es) (map lengthOf fs)))
+      (omega (arith, ap sum (map-append lengthOf es fs), sum-join (map lengthOf es) (map lengthOf fs)))
 
   join-bad : Bad ≡ filed G d m 0 es → filed G d m c (es ++ fs) ≡ Bad
   join-bad e = filed-join ∙ simp (filed-bad G d m es e)
@@ -118,7 +120,8 @@ module _ (G : Geometry) (d : Disc) (m : List ℕ) (c : ℕ) (es fs : List Slot) 
 
 -- ---- the turns of a pass
 
-pub filing-start : {G : Geometry} {d : Disc} {es : List Slot} {m : List ℕ} (fs : List Slot) → fs ≡ es → Filing G d fs m 0 (filed G d m 0 es) (marked m (filesOf G d es))
+pub filing-start : {G : Geometry} {d : Disc} {es : List Slot} {m : List ℕ} (fs : List Slot) → fs ≡ es
+    → Filing G d fs m 0 (filed G d m 0 es) (marked m (filesOf G d es))
 filing-start {G} {d} {m = m} fs e = record { left = ap (filed G d m 0) e; marks = ap (λ (xs : List Slot). marked m (filesOf G d xs)) e }
 
 module _ {G : Geometry} {d : Disc} {es : List Slot} {m : List ℕ} {c : ℕ} {r : Files} {m′ : List ℕ} (i : Filing G d es m c r m′) where
@@ -142,7 +145,9 @@ module _ {G : Geometry} {d : Disc} {es : List Slot} {m : List ℕ} {c : ℕ} {r 
     filing-next k e =
         let marks-are : n ≡ marked m (filesOf G d xs) = f .marks (good e) in
         record {
-          left = ap (λ (y : List ℕ). filed G d y (c + k) fs) marks-are ∙ sym (join-good G d m c xs fs k (sym e ∙ f .answer)) ∙ ap (filed G d m c) (sym h) ∙ i .left;
+          left = ap (λ (y : List ℕ). filed G d y (c + k) fs) marks-are
+              ∙ sym (join-good G d m c xs fs k (sym e ∙ f .answer))
+              ∙ ap (filed G d m c) (sym h) ∙ i .left;
           marks = ap (λ (y : List ℕ). marked y (filesOf G d fs)) marks-are
               ∙ sym (ap (marked m) (joined-join (fileChain G d) xs fs) ∙ marked-join m (filesOf G d xs) (filesOf G d fs))
               ∙ ap (λ (y : List Slot). marked m (filesOf G d y)) (sym h) ∙ i .marks;
@@ -173,7 +178,8 @@ module _ (G : Geometry) (d : Disc) (s : Slot) {m : List ℕ} {w : Followed} {m�
       by false b x y e = refl
 
   module _ (k : ℕ) (l : SectorNo) (e : w ≡ Ended k l) where
-    walk-says : (chainEnds G d (firstOf G s) && fresh m (chain G d (firstOf G s)) ≡ true) × (k ≡ length (chain G d (firstOf G s))) × (l .0 ≡ lastOr 0 (chain G d (firstOf G s)))
+    walk-says : (chainEnds G d (firstOf G s) && fresh m (chain G d (firstOf G s)) ≡ true)
+        × (k ≡ length (chain G d (firstOf G s))) × (l .0 ≡ lastOr 0 (chain G d (firstOf G s)))
     walk-says = walk-ended G d (firstOf G s) m k l (sym e ∙ f .answer)
 
     chain-is : sound-chain ≡ eqb k (lengthOf s) && at? (lastOf G s) (l .0)

@@ -1,5 +1,5 @@
 // Rule 5 of the check: the chain of each file is as its entry says, over sectors without a mark.
-use directory::Step;
+use directory::Visit;
 use disc::Link;
 use fsck_chains::Followed;
 use geometry::Geometry;
@@ -82,7 +82,7 @@ pub fn all_files(image: &[u8], g: Geometry, marks: &mut [u8; 800]) -> Files
     let mut rest = directory::start(image, g);
     loop {
         let next = directory::advance(image, g, rest);
-        let Step::Sector(n, after) = next else {
+        let Visit::Sector(n, after) = next else {
             return Files::Good(sum);
         };
         let Files::Good(more) = sector_files(image, g, n, marks) else {

@@ -23,7 +23,9 @@ apart (s ∷ es) rest = not (named s (es ++ rest)) && apart es rest
 named-join : (s : Slot) (es fs : List Slot) → named s (es ++ fs) ≡ named s es || named s fs
 unfolding named
 named-join s [] fs = refl
-named-join s (e ∷ es) fs = ap (λ (b : Bool). same (nameOf s) (nameOf e) || b) (named-join s es fs) ∙ sym (or-assoc (same (nameOf s) (nameOf e)) (named s es) (named s fs))
+named-join s (e ∷ es) fs =
+    let here = same (nameOf s) (nameOf e) in
+    ap (λ (b : Bool). here || b) (named-join s es fs) ∙ sym (or-assoc here (named s es) (named s fs))
 
 apart-join : (es fs rest : List Slot) → apart (es ++ fs) rest ≡ apart es (fs ++ rest) && apart fs rest
 unfolding apart

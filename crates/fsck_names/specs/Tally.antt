@@ -6,13 +6,13 @@ use Prim.Native.Nat.{ℕ, zero, suc, _+_, _*_, _%_, _≤_, _<_}
 use native.Mathlib.Omega.{arith}
 use native.Mathlib.Decide.{ℕ-discrete}
 use mathlib.Core.Bool.{Bool, true, false}
-use mathlib.Core.List.{List, [], _∷_, _++_, map, append-assoc, append-nil}
+use mathlib.Core.List.{List, [], _∷_, _++_, map, append-assoc, append-nil, map-append}
 use lib.ListN.{length, set, take, drop, length-set}
 use lib.Seq.{append-snoc, getD-set-same, getD-set-other}
 use lib.Dec.{eqb, ltb}
 use borrow.Author.Tests.{eq-eqb, ne-eqb, lt-ltb, le-ltb}
 use Rattle.lists.specs.Lists.{byte, same, times}
-use Rattle.lists.specs.ListLaws.{map-join, times-none, times-join, times-here, times-past, same-true}
+use Rattle.lists.specs.ListLaws.{times-none, times-join, times-here, times-past, same-true}
 use Rattle.format.specs.Geometry.{Disc}
 use Rattle.format.specs.Layout.{slotsEach, Slot, freeSlot, inUse, nameOf, slotAt}
 use Rattle.bytes.specs.Laws.{part-byte}
@@ -62,13 +62,15 @@ tallied size t (s ∷ es) = tallied size (bumped size t s) es
 
 -- in the table of many buckets, of the nine bytes from byte a of an image on
 pub bucket-many : (image : List ℕ) (a size : ℕ) → a + 9 ≤ length image → size ≡ 16384
-    → spread (byte image a) (byte image (a + 1)) (byte image (a + 2)) (byte image (a + 3)) (byte image (a + 4)) (byte image (a + 5)) (byte image (a + 6)) (byte image (a + 7)) (byte image (a + 8)) % 16384
+    → spread (byte image a) (byte image (a + 1)) (byte image (a + 2)) (byte image (a + 3)) (byte image (a + 4)) (byte image (a + 5)) (byte image (a + 6))
+    (byte image (a + 7)) (byte image (a + 8)) % 16384
     ≡ bucketOf size (take 9 (drop a image))
 unfolding bucketOf
 bucket-many image a size fits e =
     let at : (j : ℕ) → j < 9 → byte (take 9 (drop a image)) j ≡ byte image (a + j) = part-byte image a 9 fits in
     let first : byte (take 9 (drop a image)) 0 ≡ byte image a = at 0 (omega arith) ∙ ap (byte image) (omega arith) in
-    simp (eq-eqb size 16384 e, first, at 1 (omega arith), at 2 (omega arith), at 3 (omega arith), at 4 (omega arith), at 5 (omega arith), at 6 (omega arith), at 7 (omega arith), at 8 (omega arith))
+    simp (eq-eqb size 16384 e, first, at 1 (omega arith), at 2 (omega arith), at 3 (omega arith), at 4 (omega arith))
+    (simp (at 5 (omega arith), at 6 (omega arith), at 7 (omega arith), at 8 (omega arith)))
 
 pub bucket-one : (size : ℕ) (name : List ℕ) → size ≢ 16384 → 0 ≡ bucketOf size name
 unfolding bucketOf
@@ -139,7 +141,7 @@ covers-two es = record { some = omega arith; counts = at }
 
 buckets-join : (size k : ℕ) (es fs : List Slot) → times k (bucketsOf size (es ++ fs)) ≡ times k (bucketsOf size es) + times k (bucketsOf size fs)
 unfolding bucketsOf
-buckets-join size k es fs = ap (times k) (map-join (bucket size) es fs) ∙ times-join k (bucketsOf size es) (bucketsOf size fs)
+buckets-join size k es fs = ap (times k) (map-append (bucket size) es fs) ∙ times-join k (bucketsOf size es) (bucketsOf size fs)
 
 -- one more entry is counted
 module _ {t : List ℕ} {fs : List Slot} (cov : Covers t fs) (s : Slot) where
@@ -221,7 +223,9 @@ module _ {t : List ℕ} (d : Disc) (n i : ℕ) (rest : List Slot) (cov : Covers 
 module _ (size : ℕ) (s : Slot) where
   first-named : (x : Slot) (es : List Slot) → times (bucket size s) (bucketsOf size (x ∷ es)) ≡ 0 → (b : Bool) → same (nameOf s) (nameOf x) ≡ b → b ≡ false
   unfolding bucketsOf
-  first-named x es e true q = absurd (omega (arith, times-here (bucket size s) (bucket size x) (bucketsOf size es) (ap (bucketOf size) (same-true (nameOf s) (nameOf x) q))))
+  first-named x es e true q =
+      let one-bucket = ap (bucketOf size) (same-true (nameOf s) (nameOf x) q) in
+      absurd (omega (arith, times-here (bucket size s) (bucket size x) (bucketsOf size es) one-bucket))
   first-named x es e false q = refl
 
   none-named : (es : List Slot) → times (bucket size s) (bucketsOf size es) ≡ 0 → named s es ≡ false
@@ -231,7 +235,8 @@ module _ (size : ℕ) (s : Slot) where
       rw (first-named x es e (same (nameOf s) (nameOf x)) refl) (none-named es (omega (arith, buckets-join size (bucket size s) (x ∷ []) es)))
 
 -- no later entry has the name
-pub apart-lone : {t : List ℕ} (s : Slot) (rest : List Slot) → Covers t (inUse (s ∷ []) ++ rest) → freeSlot s ≡ false → (k : ℕ) → k ≡ bucketOf (length t) (nameOf s) → k < length t → byte t k < 2
+pub apart-lone : {t : List ℕ} (s : Slot) (rest : List Slot) → Covers t (inUse (s ∷ []) ++ rest) → freeSlot s ≡ false
+    → (k : ℕ) → k ≡ bucketOf (length t) (nameOf s) → k < length t → byte t k < 2
     → true ≡ apart (inUse (s ∷ [])) rest
 unfolding bucketsOf named
 apart-lone {t} s rest cov u k p h low =

@@ -2,7 +2,7 @@
 // A first pass counts, in a table of buckets, how many names fall into each; a second compares a name with all later ones only where its
 // bucket has more than one. A directory of one sector is short enough for the second pass alone.
 use directory::Cursor;
-use directory::Step;
+use directory::Visit;
 use geometry::Geometry;
 use geometry::SectorNo;
 ghost use mathlib.Core.Path.{_≡_};
@@ -108,7 +108,7 @@ fn tally_names(image: &[u8], g: Geometry, table: &mut [u8; BUCKETS])
     let mut rest = directory::start(image, g);
     loop {
         let next = directory::advance(image, g, rest);
-        let Step::Sector(n, after) = next else {
+        let Visit::Sector(n, after) = next else {
             return;
         };
         tally_sector(image, g, n, table);
@@ -120,9 +120,11 @@ fn tally_names(image: &[u8], g: Geometry, table: &mut [u8; BUCKETS])
 
 // Whether slot j of sector m is in use, with the name of slot i of sector n. Most slots differ in the first byte of the
 // name, so the names are compared first.
-fn slot_named(image: &[u8], g: Geometry, n: SectorNo, i: usize, m: SectorNo, j: usize) -> bool
+fn slot_repeats(image: &[u8], g: Geometry, n: SectorNo, i: usize, m: SectorNo, j: usize) -> bool
     requires { ⌜ Image g (now image) × (n .0 < g .sectors) × (i < slotsEach) × (m .0 < g .sectors) × (j < slotsEach) ⌝ }
-    ensures { λ r. ⌜ r ≡ named (slotAt (sectorsOf g (now (image .entry))) (n .0) i) (inUse (slotAt (sectorsOf g (now (image .entry))) (m .0) j ∷ [])) ⌝ }
+    ensures { λ r. do
+      let d = sectorsOf g (now (image .entry))
+      ⌜ r ≡ named (slotAt d (n .0) i) (inUse (slotAt d (m .0) j ∷ [])) ⌝ }
 {
     if !slots::same_names(image, g, n, i, m, j) {
         return false;
@@ -131,12 +133,21 @@ fn slot_named(image: &[u8], g: Geometry, n: SectorNo, i: usize, m: SectorNo, j: 
 }
 
 // The same for one of the slots of sector m from slot first on.
-fn sector_named(image: &[u8], g: Geometry, n: SectorNo, i: usize, m: SectorNo, first: usize) -> bool
+fn sector_repeats(
+    image: &[u8],
+    g: Geometry,
+    n: SectorNo,
+    i: usize,
+    m: SectorNo,
+    first: usize,
+) -> bool
     requires { ⌜ Image g (now image) × (n .0 < g .sectors) × (i < slotsEach) × (m .0 < g .sectors) × (first ≤ slotsEach) ⌝ }
-    ensures { λ r. ⌜ r ≡ named (slotAt (sectorsOf g (now (image .entry))) (n .0) i) (inUse (slotsFrom (sectorsOf g (now (image .entry))) (m .0) first)) ⌝ }
+    ensures { λ r. do
+      let d = sectorsOf g (now (image .entry))
+      ⌜ r ≡ named (slotAt d (n .0) i) (inUse (slotsFrom d (m .0) first)) ⌝ }
 {
     for j in first..slots::SLOTS {
-        if slot_named(image, g, n, i, m, j) {
+        if slot_repeats(image, g, n, i, m, j) {
             return true;
         }
     }
@@ -144,7 +155,7 @@ fn sector_named(image: &[u8], g: Geometry, n: SectorNo, i: usize, m: SectorNo, f
 }
 
 // The same for one of the directory sectors that a walk still meets.
-fn later_named(image: &[u8], g: Geometry, n: SectorNo, i: usize, from: Cursor) -> bool
+fn later_repeats(image: &[u8], g: Geometry, n: SectorNo, i: usize, from: Cursor) -> bool
     requires { ⌜ Image g (now image) × (n .0 < g .sectors) × (i < slotsEach) × Inside g (from .at) ⌝ }
     ensures { λ r. do
       let d = sectorsOf g (now (image .entry))
@@ -153,10 +164,10 @@ fn later_named(image: &[u8], g: Geometry, n: SectorNo, i: usize, from: Cursor) -
     let mut rest = from;
     loop {
         let next = directory::advance(image, g, rest);
-        let Step::Sector(m, after) = next else {
+        let Visit::Sector(m, after) = next else {
             return false;
         };
-        if sector_named(image, g, n, i, m, 0) {
+        if sector_repeats(image, g, n, i, m, 0) {
             return true;
         }
         rest = after;
@@ -190,10 +201,10 @@ fn slot_differs(
     if table[k] < 2 {
         return true;
     }
-    if sector_named(image, g, n, i, n, i + 1) {
+    if sector_repeats(image, g, n, i, n, i + 1) {
         return false;
     }
-    !later_named(image, g, n, i, rest)
+    !later_repeats(image, g, n, i, rest)
 }
 
 // The same for each slot of sector n.
@@ -221,7 +232,7 @@ fn directory_differs(image: &[u8], g: Geometry, table: &[u8]) -> bool
     let mut rest = directory::start(image, g);
     loop {
         let next = directory::advance(image, g, rest);
-        let Step::Sector(n, after) = next else {
+        let Visit::Sector(n, after) = next else {
             return true;
         };
         if !sector_differs(image, g, n, after, table) {
@@ -255,12 +266,12 @@ fn long_differs(image: &[u8], g: Geometry) -> bool
 fn is_long(image: &[u8], g: Geometry) -> bool
     requires { ⌜ Image g (now image) ⌝ }
 {
-    let Step::Sector(_, after) = directory::advance(image, g, directory::start(image, g)) else {
+    let Visit::Sector(_, after) = directory::advance(image, g, directory::start(image, g)) else {
         return false;
     };
     match directory::advance(image, g, after) {
-        Step::Sector(_, _) => true,
-        Step::End => false,
+        Visit::Sector(_, _) => true,
+        Visit::End => false,
     }
 }
 

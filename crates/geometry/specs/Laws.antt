@@ -13,13 +13,16 @@ use lib.ListN.{length, getD, drop}
 use borrow.Author.Tests.{eqb-true, leb-true, ltb-true, eq-eqb, ne-eqb, le-leb}
 use Rattle.lists.specs.Lists.{byte, range, indexOf}
 use Rattle.lists.specs.ListLaws.{all-range, all-true, and-true}
+use Rattle.lists.specs.Indices.{index-range}
 use Rattle.format.specs.Refusals.{Try, Refusal, SIZE, refused, ok, refuse_if_, _>>_}
 use Rattle.format.specs.Geometry as format
-use Rattle.format.specs.Geometry.{Format, ten, tenMoved, nine, unknown, stated, tracked, geometry, onDisc, sectorNumber, placeOf, startOf, flat, sector}
-use Rattle.format.specs.Arrangements.{Arranged, index-range}
+use Rattle.format.specs.Geometry.{Format, ten, tenMoved, nine, unknown, stated, tracked, geometry, onDisc, sectorNumber, placeOf, startOf, flat, Disc, sector}
+use Rattle.format.specs.Arrangements.{Arranged}
 use Rattle.format.specs.Formats.{GoodFormat, ten-good, moved-good, nine-good, other-arrangement, other-sectors, nine-moved}
-use Rattle.format.specs.GeometryLaws.{Full, byte-cut, cut-full, flat-cut, place-below, plain-place, no-disc, geometry-ok, geometry-rest, geometry-none, geometry-many, geometry-done, on-disc-is, number-below, track-back, sector-back}
-use Rattle.geometry.specs.Meaning.{kindOf, known, wholeTracks, packed, placesOf, placeIn, formed, form, geo, sized, sizedAs, sectorsOf, Valid, Image, Starts}
+use Rattle.format.specs.GeometryLaws.{Full, byte-cut, cut-full, flat-cut, place-below, plain-place, no-disc, geometry-ok, geometry-rest}
+use Rattle.format.specs.GeometryLaws.{geometry-none, geometry-many, geometry-done, on-disc-is, number-below, track-back, sector-back}
+use Rattle.geometry.specs.Meaning.{kindOf, known, wholeTracks, packed, placesOf, placeIn, formed, form, geo}
+use Rattle.geometry.specs.Meaning.{sized, sizedAs, sectorsOf, Valid, Image, Starts}
 use Rattle.geometry.specs.declared.Geometry.{Geometry}
 use Rattle.geometry.specs.declared.Stated.{Stated}
 use Rattle.geometry.specs.declared.Sized.the-variants.{Of, Wrong}
@@ -152,7 +155,10 @@ module _ (g : Geometry) (image : List ℕ) (s : Stated) where
     where
       by : (b : Bool) → known s ≡ b → Opened (kindOf s) g image
       by true k = opened-known k (agrees s (length image) g _ refl e)
-      by false k = let z : _≡_ {A = ℕ} 0 1 = cc (ap (λ (F : Format). geometry F (length image)) (known-not s k) ∙ no-disc (length image)) in absurd (omega arith)
+      by false k =
+          let none = ap (λ (F : Format). geometry F (length image)) (known-not s k) ∙ no-disc (length image) in
+          let z : _≡_ {A = ℕ} 0 1 = cc none in
+          absurd (omega arith)
 
 -- a refused length
 pub geometry-wrong : (s : Stated) (n : ℕ) → sizedAs s n ≡ Wrong → geometry (kindOf s) n ≡ refused SIZE
@@ -349,6 +355,13 @@ module _ {g : Geometry} {image : List ℕ} (i : Image g image) where
   -- joined again
   pub image-whole : (x : List ℕ) → length x ≡ length image → flat (form g) (geo g) (sectorsOf g x) ≡ x
   image-whole x h = flat-cut (form g) (geo g) (each-once (i .valid)) x (omega (arith, i .long, i .valid .total))
+
+  -- an image of the same length is its sectors, joined; it is the same image where they are the same
+  pub image-is : (x : List ℕ) → length x ≡ length image → {d : Disc} → sectorsOf g x ≡ d → x ≡ flat (form g) (geo g) d
+  image-is x h e = sym (image-whole x h) ∙ ap (flat (form g) (geo g)) e
+
+  pub image-stays : (x : List ℕ) → length x ≡ length image → sectorsOf g x ≡ sectorsOf g image → x ≡ image
+  image-stays x h e = image-is x h e ∙ image-whole image refl
 
 -- ---- sector numbers
 

@@ -17,12 +17,11 @@ use Rattle.lists.specs.Counts.{times-kept, times-lost, OneOf, one-of, once-apar
 use Rattle.lists.specs.Stores.{getD-sets-off, getD-sets-in}
 use Rattle.format.specs.Geometry.{Geometry, sectors, Next, go, pointed, Disc, sector, written}
 use Rattle.format.specs.GeometryLaws.{pointed-stop, sector-other, sector-same, Full, full-set}
-use Rattle.format.specs.Layout.{freePlace, directoryPlace, freeCountPlace, usedCountPlace, discNamePlace, versionPlace}
-use Rattle.format.specs.Layout.{inUsePlace, Slot, inUse, lengthOf, slotsAt, slotsOf, pairAt, pairBytes, linkOf}
+use Rattle.format.specs.Layout.{freeOffset, directoryOffset, freeCountOffset, usedCountOffset, discNameOffset, versionOffset}
+use Rattle.format.specs.Layout.{inUseOffset, Slot, inUse, lengthOf, slotsAt, slotsOf, pairAt, pairBytes, linkOf}
 use Rattle.format.specs.ChainLaws.{Chain, end, on}
 use Rattle.format.specs.Effects.{headOf, version, chained, passing, blankDirectory, blankFree, blankSystem, blankDisc}
 use Rattle.soundness.specs.Passing.{passed-once, passed-not}
-use Rattle.lists.specs.Stores.{getD-sets-off, getD-sets-in}
 use Rattle.format.specs.NameCounts.{called, called-none}
 use Rattle.soundness.specs.Slots.{zeros-unused}
 use Rattle.soundness.specs.Filed.{entriesOf, chainsOf}
@@ -94,74 +93,74 @@ module _ (G : Geometry) (ps : Passes G) where
 
   module _ (nine : List ℕ) (nine-long : length nine ≡ 9) where
     free-pointed : List ℕ
-    free-pointed = sets (replicate 256 0) freePlace (pairBytes G (headOf (blankFree G)))
+    free-pointed = sets (replicate 256 0) freeOffset (pairBytes G (headOf (blankFree G)))
 
     directory-pointed : List ℕ
-    directory-pointed = sets free-pointed directoryPlace (pairBytes G (go (blankDirectory G)))
+    directory-pointed = sets free-pointed directoryOffset (pairBytes G (go (blankDirectory G)))
 
     counts₀ : List ℕ
     counts₀ = word (sectors G - 2) ++ word 0
 
     counted-system : List ℕ
-    counted-system = sets directory-pointed freeCountPlace counts₀
+    counted-system = sets directory-pointed freeCountOffset counts₀
 
     named-system : List ℕ
-    named-system = sets counted-system discNamePlace nine
+    named-system = sets counted-system discNameOffset nine
 
-    system-is : blankSystem G nine ≡ sets named-system versionPlace version
+    system-is : blankSystem G nine ≡ sets named-system versionOffset version
     unfolding blankSystem free-pointed directory-pointed counts₀ counted-system named-system
     system-is = refl
 
     free-pointed-length : length free-pointed ≡ 256
     unfolding free-pointed
-    free-pointed-length = length-sets (replicate 256 0) freePlace (pairBytes G (headOf (blankFree G)))
+    free-pointed-length = length-sets (replicate 256 0) freeOffset (pairBytes G (headOf (blankFree G)))
 
     directory-pointed-length : length directory-pointed ≡ 256
     unfolding directory-pointed
-    directory-pointed-length = length-sets free-pointed directoryPlace (pairBytes G (go (blankDirectory G))) ∙ free-pointed-length
+    directory-pointed-length = length-sets free-pointed directoryOffset (pairBytes G (go (blankDirectory G))) ∙ free-pointed-length
 
     system-size : length (blankSystem G nine) ≡ 256
     unfolding counted-system named-system
     system-size =
-        ap length system-is ∙ length-sets named-system versionPlace version ∙ length-sets counted-system discNamePlace nine
-        ∙ length-sets directory-pointed freeCountPlace counts₀ ∙ directory-pointed-length
+        ap length system-is ∙ length-sets named-system versionOffset version ∙ length-sets counted-system discNameOffset nine
+        ∙ length-sets directory-pointed freeCountOffset counts₀ ∙ directory-pointed-length
 
-    to-counts : (k : ℕ) → k < discNamePlace → byte (blankSystem G nine) k ≡ byte counted-system k
+    to-counts : (k : ℕ) → k < discNameOffset → byte (blankSystem G nine) k ≡ byte counted-system k
     unfolding named-system
     to-counts k h =
-        ap (λ (r : List ℕ). byte r k) system-is ∙ getD-sets-off version named-system versionPlace k 0 (λ a. absurd (omega arith))
-        ∙ getD-sets-off nine counted-system discNamePlace k 0 (λ a. absurd (omega arith))
+        ap (λ (r : List ℕ). byte r k) system-is ∙ getD-sets-off version named-system versionOffset k 0 (λ a. absurd (omega arith))
+        ∙ getD-sets-off nine counted-system discNameOffset k 0 (λ a. absurd (omega arith))
 
-    to-pointers : (k : ℕ) → k < freeCountPlace → byte (blankSystem G nine) k ≡ byte directory-pointed k
+    to-pointers : (k : ℕ) → k < freeCountOffset → byte (blankSystem G nine) k ≡ byte directory-pointed k
     unfolding counted-system
-    to-pointers k h = to-counts k (omega arith) ∙ getD-sets-off counts₀ directory-pointed freeCountPlace k 0 (λ a. absurd (omega arith))
+    to-pointers k h = to-counts k (omega arith) ∙ getD-sets-off counts₀ directory-pointed freeCountOffset k 0 (λ a. absurd (omega arith))
 
-    at-counts : (j : ℕ) → j < 4 → byte (blankSystem G nine) (freeCountPlace + j) ≡ byte counts₀ j
+    at-counts : (j : ℕ) → j < 4 → byte (blankSystem G nine) (freeCountOffset + j) ≡ byte counts₀ j
     unfolding counted-system counts₀
     at-counts j h =
-        to-counts (freeCountPlace + j) (omega arith)
-        ∙ getD-sets-in counts₀ directory-pointed freeCountPlace j 0 h (omega (arith, directory-pointed-length))
+        to-counts (freeCountOffset + j) (omega arith)
+        ∙ getD-sets-in counts₀ directory-pointed freeCountOffset j 0 h (omega (arith, directory-pointed-length))
 
-    system-frees : pairAt G (blankSystem G nine) freePlace ≡ headOf (blankFree G)
+    system-frees : pairAt G (blankSystem G nine) freeOffset ≡ headOf (blankFree G)
     unfolding directory-pointed free-pointed
     system-frees =
         let pair : List ℕ = pairBytes G (go (blankDirectory G)) in
         ap₂ (λ (a b : ℕ). pointed G a b)
-        (to-pointers (freePlace + 1) (omega arith) ∙ getD-sets-off pair free-pointed directoryPlace (freePlace + 1) 0 (λ a. absurd (omega arith)))
-        (to-pointers freePlace (omega arith) ∙ getD-sets-off pair free-pointed directoryPlace freePlace 0 (λ a. absurd (omega arith)))
-        ∙ pair-stored G u (replicate 256 0) freePlace to-free (omega arith)
+        (to-pointers (freeOffset + 1) (omega arith) ∙ getD-sets-off pair free-pointed directoryOffset (freeOffset + 1) 0 (λ a. absurd (omega arith)))
+        (to-pointers freeOffset (omega arith) ∙ getD-sets-off pair free-pointed directoryOffset freeOffset 0 (λ a. absurd (omega arith)))
+        ∙ pair-stored G u (replicate 256 0) freeOffset to-free (omega arith)
 
-    system-dirs : pairAt G (blankSystem G nine) directoryPlace ≡ go (blankDirectory G)
+    system-dirs : pairAt G (blankSystem G nine) directoryOffset ≡ go (blankDirectory G)
     unfolding directory-pointed
     system-dirs =
-        ap₂ (λ (a b : ℕ). pointed G a b) (to-pointers (directoryPlace + 1) (omega arith)) (to-pointers directoryPlace (omega arith))
-        ∙ pair-stored G u free-pointed directoryPlace (to-sector (blankDirectory G) (omega (arith, three, enough))) (omega (arith, free-pointed-length))
+        ap₂ (λ (a b : ℕ). pointed G a b) (to-pointers (directoryOffset + 1) (omega arith)) (to-pointers directoryOffset (omega arith))
+        ∙ pair-stored G u free-pointed directoryOffset (to-sector (blankDirectory G) (omega (arith, three, enough))) (omega (arith, free-pointed-length))
 
-    system-freeCount : wordAt (blankSystem G nine) freeCountPlace ≡ sectors G - 2
+    system-freeCount : wordAt (blankSystem G nine) freeCountOffset ≡ sectors G - 2
     unfolding counts₀
     system-freeCount = ap₂ (λ (a b : ℕ). a + 256 * b) (at-counts 0 (omega arith)) (at-counts 1 (omega arith)) ∙ omega (arith, u .few)
 
-    system-usedCount : wordAt (blankSystem G nine) usedCountPlace ≡ 0
+    system-usedCount : wordAt (blankSystem G nine) usedCountOffset ≡ 0
     unfolding counts₀
     system-usedCount = ap₂ (λ (a b : ℕ). a + 256 * b) (at-counts 2 (omega arith)) (at-counts 3 (omega arith))
 
@@ -229,17 +228,17 @@ module _ (G : Geometry) (ps : Passes G) where
     blank-laid =
         record {
           filed = record {
-            directory-chain = on (ap (λ (r : List ℕ). pairAt G r directoryPlace) at-zero ∙ system-dirs) (end (ap (linkOf G) at-dir ∙ pointed-stop G 0 0 refl));
+            directory-chain = on (ap (λ (r : List ℕ). pairAt G r directoryOffset) at-zero ∙ system-dirs) (end (ap (linkOf G) at-dir ∙ pointed-stop G 0 0 refl));
             some-directory = omega arith;
-            in-use-counted = (ap (λ (r : List ℕ). byte r inUsePlace) at-dir ∙ sym (ap length (zeros-unused d (blankDirectory G) at-dir))) also done;
+            in-use-counted = (ap (λ (r : List ℕ). byte r inUseOffset) at-dir ∙ sym (ap length (zeros-unused d (blankDirectory G) at-dir))) also done;
             good-entries = rw no-entries done;
             names-differ = λ x. omega (arith, ap (called x) no-entries, called-none x);
             good-chains = rw no-entries done;
             apart = once-apart (blankDirectory G ∷ []) (chainsOf G d (entriesOf d (blankDirectory G ∷ []))) (blankFree G) met-once;
           };
-          free-chain = subst (λ (q : Next). Chain G d q (blankFree G)) (sym (ap (λ (r : List ℕ). pairAt G r freePlace) at-zero ∙ system-frees)) free-chain;
+          free-chain = subst (λ (q : Next). Chain G d q (blankFree G)) (sym (ap (λ (r : List ℕ). pairAt G r freeOffset) at-zero ∙ system-frees)) free-chain;
           once = met-once;
-          free-counted = ap (λ (r : List ℕ). wordAt r freeCountPlace) at-zero ∙ system-freeCount ∙ sym free-long;
-          used-counted = ap (λ (r : List ℕ). wordAt r usedCountPlace) at-zero ∙ system-usedCount
+          free-counted = ap (λ (r : List ℕ). wordAt r freeCountOffset) at-zero ∙ system-freeCount ∙ sym free-long;
+          used-counted = ap (λ (r : List ℕ). wordAt r usedCountOffset) at-zero ∙ system-usedCount
               ∙ ap (λ (ss : List Slot). sum (map lengthOf ss)) (sym no-entries);
         }

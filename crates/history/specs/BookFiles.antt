@@ -9,13 +9,12 @@ use mathlib.Core.List.{List, [], _∷_, map, _++_, map-append}
 use lib.ListN.{length, length-map}
 use Rattle.lists.specs.Lists.{same, consIf, filter, times}
 use Rattle.lists.specs.ListLaws.{All, done, _also_, head-of, tail-of, all-left, all-right, map-same, times-join, at-all}
-use Rattle.lists.specs.Places.{Place}
+use Rattle.lists.specs.OneChanged.{OneChanged}
 use Rattle.format.specs.Geometry.{Geometry, Disc, sector}
 use Rattle.format.specs.Layout.{Slot, nameOf, lengthOf, linkOf, firstOf, lastOf, fileChain}
 use Rattle.format.specs.Modules.{Module, plain}
 use Rattle.format.specs.Effects.{body, reading}
 use Rattle.history.specs.History.{File, named}
-use Rattle.lists.specs.Places.{Place}
 use Rattle.format.specs.NameCounts.{ofName, called}
 use Rattle.format.specs.RuleLaws.{GoodChain}
 use Rattle.soundness.specs.Filed.{entriesOf, chainsOf, Filed}
@@ -47,12 +46,12 @@ module _ (G : Geometry) (d d′ : Disc) where
       (fileOf-frame ss fs (λ n k. h n (omega (arith, times-join n (fileChain G d s) (chainsOf G d ss)))))
 
 -- one slot changes, but not its file's sectors
-pub filesOf-place : {G : Geometry} {d : Disc} (d′ : Disc) (dir : List ℕ) {s s′ : Slot} → All (GoodChain G d) (entriesOf d dir)
-    → Place (entriesOf d dir) (entriesOf d′ dir) s s′
+pub filesOf-changed : {G : Geometry} {d : Disc} (d′ : Disc) (dir : List ℕ) {s s′ : Slot} → All (GoodChain G d) (entriesOf d dir)
+    → OneChanged (entriesOf d dir) (entriesOf d′ dir) s s′
     → ((n : ℕ) → 0 < times n (chainsOf G d (entriesOf d dir)) → sector d′ n ≡ sector d n) → firstOf G s′ ≡ firstOf G s → lastOf G s′ ≡ lastOf G s
     → lengthOf s′ ≡ lengthOf s
-    → Place (filesOf G d dir) (filesOf G d′ dir) (fileOf G d s) (record { name = nameOf s′; count = lengthOf s; reading = reading G d s })
-filesOf-place {G} {d} d′ dir {s = s} {s′ = s′} files p stay e1 e2 e3 =
+    → OneChanged (filesOf G d dir) (filesOf G d′ dir) (fileOf G d s) (record { name = nameOf s′; count = lengthOf s; reading = reading G d s })
+filesOf-changed {G} {d} d′ dir {s = s} {s′ = s′} files p stay e1 e2 e3 =
     let fs = rw (p .was) at files in
     let stay′ : (n : ℕ) → 0 < times n (chainsOf G d (p .pre)) + times n (fileChain G d s) + times n (chainsOf G d (p .post)) → sector d′ n ≡ sector d n = λ n h.
     stay n (rw (p .was) (omega (arith, chains-at G d (p .pre) (p .post) s n))) in

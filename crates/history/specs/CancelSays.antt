@@ -19,7 +19,7 @@ use Rattle.format.specs.Geometry.{Format, Geometry, geometry, sectors, sectorAt
 use Rattle.format.specs.Formats.{GoodFormat}
 use Rattle.format.specs.Arrangements.{Arranged}
 use Rattle.format.specs.GeometryLaws.{pointed-stop, pointed-none, place-back, sector-full, byte-cut}
-use Rattle.format.specs.Layout.{directoryPlace, linkPlace, pairAt, linkOf, directoryPointer, directory, free}
+use Rattle.format.specs.Layout.{directoryOffset, linkOffset, pairAt, linkOf, directoryPointer, directory, free}
 use Rattle.format.specs.ChainLaws.{chain-stops, SameLink, chain-frame}
 use Rattle.format.specs.Check.{broken}
 use Rattle.format.specs.Names.{stored}
@@ -90,22 +90,22 @@ module _ {F : Format} (f : GoodFormat F) (image : List ℕ) (G : Geometry) (g : 
   links n on =
       elim (ℕ-discrete n (lastOr 0 (free G d))) [
         | no e ↦
-            let track-byte = byte-back n linkPlace on (omega arith) (rw (ne-eqb n (lastOr 0 (free G d)) e) (and-false (elem n (fileTook G d m)))) in
+            let track-byte = byte-back n linkOffset on (omega arith) (rw (ne-eqb n (lastOr 0 (free G d)) e) (and-false (elem n (fileTook G d m)))) in
             ap₂ (pointed G) track-byte sector-byte
         | yes e ↦ elim (ℕ-discrete (times n (free G d)) 0) [
           | yes out ↦ ap (linkOf G) (stays n on out)
           | no met ↦
               let ends : linkOf G (sector d n) ≡ stop =
               subst (λ (k : ℕ). linkOf G (sector d k) ≡ stop) (sym e) (chain-stops (l .free-chain) (some-met (free G d) (omega arith))) in
-              let zero : byte (sector d n) (linkPlace + 1) ≡ 0 = pointed-none G _ _ ends in
+              let zero : byte (sector d n) (linkOffset + 1) ≡ 0 = pointed-none G _ _ ends in
               pointed-stop G _ _ (sector-byte ∙ zero) ∙ sym ends
         ]
       ]
     where
-      sector-byte : byte (sector d′ n) (linkPlace + 1) ≡ byte (sector d n) (linkPlace + 1)
+      sector-byte : byte (sector d′ n) (linkOffset + 1) ≡ byte (sector d n) (linkOffset + 1)
       sector-byte =
           let none : eqb n (lastOr 0 (free G d)) && false ≡ false = and-false (eqb n (lastOr 0 (free G d))) in
-          byte-back n (linkPlace + 1) on (omega arith) (rw none (and-false (elem n (fileTook G d m))))
+          byte-back n (linkOffset + 1) on (omega arith) (rw none (and-false (elem n (fileTook G d m))))
 
       some-met : (ns : List ℕ) → 0 < times n ns → 0 < length ns
       some-met [] h = absurd (omega (arith, times-none n))
@@ -120,7 +120,7 @@ module _ {F : Format} (f : GoodFormat F) (image : List ℕ) (G : Geometry) (g : 
   same-system = let one = laid-one l 0 in stays 0 (omega (arith, laid-sum l, l .filed .some-directory)) (zero-or _ (λ h. omega (arith, one .low (omega arith))))
 
   same-pointer : directoryPointer G d′ ≡ directoryPointer G d
-  same-pointer = ap (λ (r : List ℕ). pairAt G r directoryPlace) same-system
+  same-pointer = ap (λ (r : List ℕ). pairAt G r directoryOffset) same-system
 
   filed′ : Filed G d′ (directory G d)
   filed′ = frame-filed d′ (l .filed) same-pointer in-place

@@ -12,7 +12,7 @@ use Rattle.lists.specs.Lists.{byte, elem, lastOr}
 use Rattle.format.specs.Refusals.{ok}
 use Rattle.format.specs.Geometry.{Format, Geometry, geometry, sectorAt, Disc, cut}
 use Rattle.format.specs.Names.{stored}
-use Rattle.format.specs.Layout.{linkPlace, free}
+use Rattle.format.specs.Layout.{linkOffset, free}
 use Rattle.format.specs.Modules.{Module, sectorsFor}
 use Rattle.format.specs.Effects.{growth}
 use Rattle.format.specs.Calls.{afterSave, afterDelete, afterRename}
@@ -30,7 +30,7 @@ fileTook G d m = take (sectorsFor (length (m .bytes))) (free G d)
 -- "except bytes 2 to 255 of the sectors that the file took, and the track byte of the old end of the free chain where the save reached it": byte k of
 -- sector n, where a link begins with its track byte; d is the disc before the save
 unfoldable pub excepted : Geometry → Disc → Module → (n k : ℕ) → Bool
-excepted G d m n k = elem n (fileTook G d m) && (leb 2 k || (eqb n (lastOr 0 (free G d)) && eqb k linkPlace))
+excepted G d m n k = elem n (fileTook G d m) && (leb 2 k || (eqb n (lastOr 0 (free G d)) && eqb k linkOffset))
 
 -- "every byte of the image is as before except ..": byte i is byte i % 256 of the sector at the place i / 256
 pub record Cancelled (F : Format) (G : Geometry) (image : List ℕ) (m : Module) (back : List ℕ) : Type 0 where

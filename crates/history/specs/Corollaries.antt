@@ -17,7 +17,7 @@ use Rattle.format.specs.Formats.{GoodFormat}
 use Rattle.format.specs.Names.{stored}
 use Rattle.format.specs.Layout.{Slot, entries}
 use Rattle.format.specs.Modules.{Module}
-use Rattle.format.specs.ModuleLaws.{allowed-true, sectors-fit, plain-only}
+use Rattle.format.specs.ModuleLaws.{module-true, sectors-fit, plain-only}
 use Rattle.format.specs.Effects.{reading}
 use Rattle.format.specs.Calls.{saveOn, ChangeAnswer, changeAnswerBy, readAnswerBy, afterCheck, afterRead, afterSave}
 use Rattle.format.specs.CallLaws.{save-ok}
@@ -30,7 +30,7 @@ use Rattle.history.specs.DemandSays.{demand-3-of}
 -- a module that is read has 65,536 bytes at most
 reading-small : (G : Geometry) (d : Disc) (s : Slot) (m : Module) → reading G d s ≡ some m → length (m .bytes) ≤ 65536
 unfolding reading
-reading-small G d s m e = omega (arith, allowed-true m (plain-only _ m e .0) .within)
+reading-small G d s m e = omega (arith, module-true m (plain-only _ m e .0) .within)
 
 -- with room for every module, what the book says is the reading itself
 says-whole : (o : Option Module) (room : ℕ) → ((m : Module) → o ≡ some m → length (m .bytes) ≤ room) → says o room ≡ (o orRefuse NOT-PLAIN)

@@ -21,7 +21,7 @@ use Rattle.format.specs.Geometry.{Format, unknown, stated, Geometry, geometry, 
 use Rattle.format.specs.Formats.{GoodFormat, stated-cases}
 use Rattle.format.specs.GeometryLaws.{no-disc, Full, sector-full, sector-same, sector-other, pointed-on}
 use Rattle.format.specs.ChainLaws.{Chain, chain-frame}
-use Rattle.format.specs.Layout.{freePlace, freeCountPlace, usedCountPlace, Slot, system, pairAt, linkOf}
+use Rattle.format.specs.Layout.{freeOffset, freeCountOffset, usedCountOffset, Slot, system, pairAt, linkOf}
 use Rattle.format.specs.Layout.{lengthOf, freeCount, usedCount, freePointer, free, find, fileChain, directory}
 use Rattle.format.specs.Check.{broken}
 use Rattle.format.specs.Modules.{Module, sectorsFor}
@@ -121,19 +121,19 @@ module _ (G : Geometry) (u : Bounded G) (d : Disc) (z : Full G d) (e : broken G 
 
     free-now : freePointer G now ≡ linkOf G (sector d (lastOr 0 taken))
     unfolding sys
-    free-now = ap (λ (r : List ℕ). pairAt G r freePlace) at-zero ∙ system-free G u d full-system _ to-rest _ _
+    free-now = ap (λ (r : List ℕ). pairAt G r freeOffset) at-zero ∙ system-free G u d full-system _ to-rest _ _
 
     freed-now : freeCount now ≡ length rest
     unfolding sys
     freed-now =
-        ap (λ (r : List ℕ). wordAt r freeCountPlace) at-zero
+        ap (λ (r : List ℕ). wordAt r freeCountOffset) at-zero
         ∙ system-freed G u d full-system _ to-rest (freeCount d - length taken) _ (omega (arith, laid .free-counted, total, u .few))
         ∙ omega (arith, laid .free-counted, rest-long)
 
     used-now : usedCount now ≡ usedCount d + sectorsFor (length (m .bytes))
     unfolding sys needed
     used-now =
-        ap (λ (r : List ℕ). wordAt r usedCountPlace) at-zero
+        ap (λ (r : List ℕ). wordAt r usedCountOffset) at-zero
         ∙ system-used G u d full-system _ to-rest _ (usedCount d + sectorsFor (length (m .bytes)))
         (omega (arith, laid .used-counted, total, many, rest-long, u .few))
 
@@ -206,12 +206,12 @@ module _ (G : Geometry) (u : Bounded G) (d : Disc) (z : Full G d) (e : broken G 
     delete-reports =
         let r = removable G d nine s e q in
         let fewer = length-append (fileChain G d s) (free G d) in
-        let counted = ap (λ (x : List ℕ). wordAt x freeCountPlace) zero-stays ∙ laid .free-counted in
+        let counted = ap (λ (x : List ℕ). wordAt x freeCountOffset) zero-stays ∙ laid .free-counted in
         reports-7 (within-filed deleted within) same-chain (free-few laid) all-apart counted
         (λ w. omega (
           arith,
           w,
-          ap (λ (x : List ℕ). wordAt x usedCountPlace) zero-stays,
+          ap (λ (x : List ℕ). wordAt x usedCountOffset) zero-stays,
           laid .used-counted,
           laid-sum laid,
           laid-sum deleted,

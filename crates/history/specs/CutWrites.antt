@@ -19,7 +19,7 @@ use Rattle.lists.specs.Counts.{times-more}
 use Rattle.format.specs.Refusals.{ok}
 use Rattle.format.specs.Geometry.{Geometry, Next, Disc, sector, Write, written}
 use Rattle.format.specs.GeometryLaws.{sector-other, sector-same, Full}
-use Rattle.format.specs.Layout.{directoryPlace, Slot, pairAt, directoryPointer, free, openSlot, find, fileChain}
+use Rattle.format.specs.Layout.{directoryOffset, Slot, pairAt, directoryPointer, free, openSlot, find, fileChain}
 use Rattle.format.specs.Check.{broken}
 use Rattle.format.specs.Modules.{Module, sectorsFor}
 use Rattle.format.specs.Effects.{needed, growth, saveWrites, deleteWrites, systemWrite}
@@ -30,7 +30,7 @@ use Rattle.soundness.specs.Found.{found, file-last}
 use Rattle.soundness.specs.Pointers.{Bounded}
 use Rattle.soundness.specs.SystemWrites.{system-directory}
 use Rattle.soundness.specs.ChainWrites.{written-join}
-use Rattle.soundness.specs.ListedWrites.{places, allTaken, entryHome, home-lies, taken-places}
+use Rattle.soundness.specs.ListedWrites.{targets, allTaken, entryHome, home-lies, taken-targets}
 use Rattle.history.specs.DeleteLeaves.{delete-leaves}
 use Rattle.history.specs.Cuts.{Writing, save, delete, rename, protect, writesOn, isDone}
 
@@ -44,9 +44,9 @@ within-self = record { pointer = refl; stays = λ n h. refl }
 
 -- ---- parts of lists
 
-of-places : {P : ℕ → Type 0} (ws : List Write) → All P (places ws) → All (λ w. P (w .at)) ws
-of-places [] h = done
-of-places (w ∷ ws) h = head-of h also of-places ws (tail-of h)
+of-targets : {P : ℕ → Type 0} (ws : List Write) → All P (targets ws) → All (λ w. P (w .at)) ws
+of-targets [] h = done
+of-targets (w ∷ ws) h = head-of h also of-targets ws (tail-of h)
 
 -- ---- writes of some sectors only
 
@@ -62,7 +62,7 @@ into-other zs d (_also_ {x = w} {xs = ws} k ks) n h =
 module _ (G : Geometry) where
   -- a write of the system sector keeps the directory pointer p
   abbrev Keeps : Next → Write → Type 0
-  Keeps p w = w .at ≡ 0 → pairAt G (w .bytes) directoryPlace ≡ p
+  Keeps p w = w .at ≡ 0 → pairAt G (w .bytes) directoryOffset ≡ p
 
   keeps-pointer : {p : Next} {ws : List Write} (d : Disc) → 0 < length d → directoryPointer G d ≡ p → All (Keeps p) ws → directoryPointer G (written ws d) ≡ p
   keeps-pointer d h e done = e
@@ -71,7 +71,7 @@ module _ (G : Geometry) where
     where
       now : directoryPointer G (set d (w .at) (w .bytes)) ≡ p
       now =
-          let pointer : List ℕ → Next = λ s. pairAt G s directoryPlace in
+          let pointer : List ℕ → Next = λ s. pairAt G s directoryOffset in
           elim (ℕ-discrete (w .at) 0) [
             | yes q ↦ ap (λ (j : ℕ). pointer (sector (set d j (w .bytes)) 0)) q ∙ ap pointer (sector-same d 0 (w .bytes) h) ∙ k q
             | no q ↦ ap pointer (sector-other d (w .at) 0 (w .bytes) (λ e. q (sym e))) ∙ e
@@ -112,9 +112,9 @@ module _ (G : Geometry) (u : Bounded G) (d : Disc) (z : Full G d) (e : broken G 
     home : ℕ
     home = entryHome G d (openSlot G d)
 
-    places-are : places ws ≡ (0 ∷ allTaken G d m) ++ home ∷ []
+    targets-are : targets ws ≡ (0 ∷ allTaken G d m) ++ home ∷ []
     unfolding ws home
-    places-are = taken-places G d nine m room
+    targets-are = taken-targets G d nine m room
 
     free-taken : {P : ℕ → Type 0} → ((n : ℕ) → 0 < times n (free G d) → P n) → All P (allTaken G d m)
     free-taken h = all-take (sectorsFor (length (m .bytes)) + growth G d) (at-all (free G d) h)
@@ -123,9 +123,9 @@ module _ (G : Geometry) (u : Bounded G) (d : Disc) (z : Full G d) (e : broken G 
     unfolding ws
     first-into j h =
         let front : List ℕ = 0 ∷ allTaken G d m in
-        let fits : j ≤ length front = omega (arith, length-map ws (λ w. w .at), ap length places-are, length-append front (home ∷ [])) in
-        let is : places (take j ws) ≡ take j front = sym (map-take (λ w. w .at) j ws) ∙ ap (take j) places-are ∙ take-append-le j front (home ∷ []) fits in
-        of-places (take j ws) (rw is (all-take j (at-all front (λ n q. q))))
+        let fits : j ≤ length front = omega (arith, length-map ws (λ w. w .at), ap length targets-are, length-append front (home ∷ [])) in
+        let is : targets (take j ws) ≡ take j front = sym (map-take (λ w. w .at) j ws) ∙ ap (take j) targets-are ∙ take-append-le j front (home ∷ []) fits in
+        of-targets (take j ws) (rw is (all-take j (at-all front (λ n q. q))))
 
     rest-low : All (λ n. 0 < n) (allTaken G d m ++ home ∷ [])
     unfolding home
@@ -134,7 +134,7 @@ module _ (G : Geometry) (u : Bounded G) (d : Disc) (z : Full G d) (e : broken G 
     -- none but the first writes the system sector
     pub later-low : All (λ w. 0 < w .at) (drop 1 (saveWrites G d nine m))
     unfolding ws saveWrites
-    later-low = of-places _ (subst (All (λ n. 0 < n)) (sym (ap (drop 1) places-are)) rest-low)
+    later-low = of-targets _ (subst (All (λ n. 0 < n)) (sym (ap (drop 1) targets-are)) rest-low)
 
     keeps : All (Keeps G (directoryPointer G d)) (saveWrites G d nine m)
     unfolding saveWrites

@@ -14,7 +14,7 @@ use Rattle.lists.specs.Lists.{byte, same, times, lastOr}
 use Rattle.format.specs.Refusals.{Try, Refusal, ok, _>>=_}
 use Rattle.format.specs.Geometry.{Format, Geometry, geometry, Disc, sector, cut, Write}
 use Rattle.format.specs.Names.{stored}
-use Rattle.format.specs.Layout.{freePlace, freeCountPlace, system, entries, free}
+use Rattle.format.specs.Layout.{freeOffset, freeCountOffset, system, entries, free}
 use Rattle.format.specs.Modules.{Module}
 use Rattle.format.specs.Check.{filesHold}
 use Rattle.format.specs.Effects.{body, unmet}
@@ -87,11 +87,11 @@ pub record Threaded (G : Geometry) (d d′ : Disc) : Type 0 where
   pub chain : free G d′ ≡ unmet G d
   -- "ends it with zeros", "the free pointer (zeros if that is empty)"
   pub ended : 0 < length (unmet G d) → take 2 (sector d′ (lastOr 0 (unmet G d))) ≡ 0 ∷ 0 ∷ []
-  pub none-free : length (unmet G d) ≡ 0 → (k : ℕ) → k < 2 → byte (system d′) (freePlace + k) ≡ 0
+  pub none-free : length (unmet G d) ≡ 0 → (k : ℕ) → k < 2 → byte (system d′) (freeOffset + k) ≡ 0
   -- "no other byte changes": of the other sectors none, of a threaded one its link alone, of 0/1 the free pointer and the counts
   pub others-stay : (n : ℕ) → n ≢ 0 → times n (unmet G d) ≡ 0 → sector d′ n ≡ sector d n
   pub bodies-stay : (n : ℕ) → 0 < times n (unmet G d) → body (sector d′ n) ≡ body (sector d n)
-  pub system-stays : (k : ℕ) → (freePlace ≤ k → freePlace + 2 ≤ k) → (freeCountPlace ≤ k → freeCountPlace + 4 ≤ k) → byte (system d′) k ≡ byte (system d) k
+  pub system-stays : (k : ℕ) → (freeOffset ≤ k → freeOffset + 2 ≤ k) → (freeCountOffset ≤ k → freeCountOffset + 4 ≤ k) → byte (system d′) k ≡ byte (system d) k
 
 -- What a repair answers and leaves of an image, in the geometry G.
 pub record Repaired (F : Format) (G : Geometry) (image : List ℕ) (a : Answer) : Type 0 where

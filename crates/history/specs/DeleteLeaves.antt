@@ -11,18 +11,16 @@ use lib.Seq.{length-sets}
 use Rattle.lists.specs.Lists.{sum, times, lastOr, byte, wordAt, Once}
 use Rattle.lists.specs.ListLaws.{All, tail-of, all-join, all-left, all-right, times-join, all-at, at-all}
 use Rattle.lists.specs.Counts.{OneOf, once-parts, once-apart}
-use Rattle.lists.specs.Places.{Place}
+use Rattle.lists.specs.OneChanged.{OneChanged}
 use Rattle.format.specs.Geometry.{Geometry, sectors, Disc, sector, written}
 use Rattle.format.specs.GeometryLaws.{pointed-on, sector-other, sector-same, Full, sector-full, full-set}
-use Rattle.format.specs.Layout.{freeCountPlace, usedCountPlace, linkPlace, inUsePlace, system, freeCount, usedCount, Slot}
+use Rattle.format.specs.Layout.{freeCountOffset, usedCountOffset, linkOffset, inUseOffset, system, freeCount, usedCount, Slot}
 use Rattle.format.specs.Layout.{emptySlot, inUse, lengthOf, slotsOf, linkBytes, linkOf, freePointer, firstOf, fileChain}
 use Rattle.format.specs.ChainLaws.{Chain, SameLink, chain-frame, chain-join}
 use Rattle.format.specs.Effects.{withSlot, withLink, systemWrite, deleteWrites}
 use Rattle.history.specs.History.{File}
-use Rattle.lists.specs.Counts.{OneOf, once-parts, once-apart}
-use Rattle.lists.specs.Places.{Place}
 use Rattle.format.specs.NameCounts.{called, called-join, called-at}
-use Rattle.soundness.specs.Slots.{empty-length, empty-free, place-freed, slots-same}
+use Rattle.soundness.specs.Slots.{empty-length, empty-free, change-freed, slots-same}
 use Rattle.soundness.specs.SlotWrites.{withSlot-length, withSlot-count, withBytes, SlotChange, withSlot-change, change-link, change-sector, change-slots}
 use Rattle.format.specs.RuleLaws.{GoodChain, Counted}
 use Rattle.soundness.specs.Filed.{entriesOf, chainsOf}
@@ -42,7 +40,7 @@ pub record DeleteLeaves (G : Geometry) (d d′ : Disc) (dir frees : List ℕ) (s
   pub was : filesOf G d dir ≡ pre ++ fileOf G d s ∷ post
   pub now : filesOf G d′ dir ≡ pre ++ post
   -- the sectors: the directory's, 0/1, and those that stay
-  pub at-home : sector d′ (s .home) ≡ withSlot (sector d (s .home)) (s .index) (byte (sector d (s .home)) inUsePlace - 1) emptySlot
+  pub at-home : sector d′ (s .home) ≡ withSlot (sector d (s .home)) (s .index) (byte (sector d (s .home)) inUseOffset - 1) emptySlot
   pub at-system : sector d′ 0 ≡ systemWrite G d (firstOf G s) (freeCount d + lengthOf s) (usedCount d - lengthOf s) .bytes
   pub at-other : (n : ℕ) → n ≢ s .home → n ≢ 0 → times n (fileChain G d s) ≡ 0 → sector d′ n ≡ sector d n
 
@@ -59,7 +57,7 @@ module _ {G : Geometry} {d : Disc} {dir frees nine : List ℕ} (u : Bounded G) (
   -- ---- the three sectors that are written
 
   sec1 : List ℕ
-  sec1 = withSlot (sector d (s .home)) (s .index) (byte (sector d (s .home)) inUsePlace - 1) emptySlot
+  sec1 = withSlot (sector d (s .home)) (s .index) (byte (sector d (s .home)) inUseOffset - 1) emptySlot
 
   sec2 : List ℕ
   sec2 = withLink (sector d last) (linkBytes G (freePointer G d))
@@ -131,7 +129,7 @@ module _ {G : Geometry} {d : Disc} {dir frees nine : List ℕ} (u : Bounded G) (
   unfolding d′ home
   at-other m h k j = sector-other (set (set d home sec1) last sec2) 0 m sys′ j ∙ sector-other (set d home sec1) last m sec2 k ∙ sector-other d home m sec1 h
 
-  at-home : sector d′ (s .home) ≡ withSlot (sector d (s .home)) (s .index) (byte (sector d (s .home)) inUsePlace - 1) emptySlot
+  at-home : sector d′ (s .home) ≡ withSlot (sector d (s .home)) (s .index) (byte (sector d (s .home)) inUseOffset - 1) emptySlot
   unfolding d′ home sec1
   at-home =
       sector-other (set (set d home sec1) last sec2) 0 home sys′ (λ e. omega (arith, low))
@@ -167,23 +165,23 @@ module _ {G : Geometry} {d : Disc} {dir frees nine : List ℕ} (u : Bounded G) (
 
   -- ---- the slots and the entries afterwards
 
-  place : Place (slotsOf d dir) (slotsOf d′ dir) s (withBytes s emptySlot)
+  slots-changed : OneChanged (slotsOf d dir) (slotsOf d′ dir) s (withBytes s emptySlot)
   unfolding home
-  place = change-slots s (f .slot-of) change home-in directory-stays
+  slots-changed = change-slots s (f .slot-of) change home-in directory-stays
 
   pre : List Slot
-  pre = inUse (place .pre)
+  pre = inUse (slots-changed .pre)
 
   post : List Slot
-  post = inUse (place .post)
+  post = inUse (slots-changed .post)
 
   before : entriesOf d dir ≡ pre ++ s ∷ post
   unfolding pre post
-  before = place-freed place (f .used) (empty-free _ _) .0
+  before = change-freed slots-changed (f .used) (empty-free _ _) .0
 
   after : entriesOf d′ dir ≡ pre ++ post
   unfolding pre post
-  after = place-freed place (f .used) (empty-free _ _) .1
+  after = change-freed slots-changed (f .used) (empty-free _ _) .1
 
   met-now : (n : ℕ) → times n (chainsOf G d (entriesOf d dir)) ≡ times n (chainsOf G d (pre ++ post)) + times n file
   unfolding file
@@ -225,12 +223,13 @@ module _ {G : Geometry} {d : Disc} {dir frees nine : List ℕ} (u : Bounded G) (
       elim (ℕ-discrete n home) [
         | yes e ↦
             let p = change-sector s (f .slot-of) change in
-            let q = place-freed p (f .used) (empty-free _ _) in
+            let q = change-freed p (f .used) (empty-free _ _) in
             let c′ : Counted d (s .home) = subst (Counted d) e c in
             let was = ap length (q .0) ∙ length-append (inUse (p .pre)) (s ∷ inUse (p .post)) in
             let now = ap length (q .1) ∙ length-append (inUse (p .pre)) (inUse (p .post)) in
             subst (Counted d′) (sym e)
-            (ap (λ (r : List ℕ). byte r inUsePlace) at-home ∙ withSlot-count (sector d (s .home)) (s .index) _ emptySlot empty-length (omega (arith, full-home))
+            (ap (λ (r : List ℕ). byte r inUseOffset) at-home
+            ∙ withSlot-count (sector d (s .home)) (s .index) _ emptySlot empty-length (omega (arith, full-home))
             ∙ omega (arith, c′, was, now))
         | no e ↦ let w = directory-stays n h e in rw (w, slots-same d d′ n w) c
       ]
@@ -259,10 +258,10 @@ module _ {G : Geometry} {d : Disc} {dir frees nine : List ℕ} (u : Bounded G) (
         };
         free-chain = rw at-zero (rw (system-free G u d full-system (firstOf G s) to-file _ _) free-now);
         once = met-once;
-        free-counted = ap (λ (r : List ℕ). wordAt r freeCountPlace) at-zero
+        free-counted = ap (λ (r : List ℕ). wordAt r freeCountOffset) at-zero
             ∙ system-freed G u d full-system (firstOf G s) to-file _ _ (omega (arith, total, l .free-counted, l .used-counted, sum-before, u .few))
             ∙ omega (arith, l .free-counted, length-append file frees, file-size);
-        used-counted = ap (λ (r : List ℕ). wordAt r usedCountPlace) at-zero
+        used-counted = ap (λ (r : List ℕ). wordAt r usedCountOffset) at-zero
             ∙ system-used G u d full-system (firstOf G s) to-file _ _ (omega (arith, total, l .used-counted, u .few))
             ∙ omega (arith, sum-before, ap (λ (ss : List Slot). sum (map lengthOf ss)) after);
       }
@@ -271,7 +270,7 @@ module _ {G : Geometry} {d : Disc} {dir frees nine : List ℕ} (u : Bounded G) (
   unfolding d′ sec1 sec2 sys′
   full′ =
       let full₁ = full-set z (s .home) sec1 (withSlot-length (sector d (s .home)) (s .index) _ emptySlot empty-length ∙ full-home) in
-      let full₂ = full-set full₁ last sec2 (length-sets (sector d last) linkPlace (linkBytes G (freePointer G d)) ∙ full-at last last-below) in
+      let full₂ = full-set full₁ last sec2 (length-sets (sector d last) linkOffset (linkBytes G (freePointer G d)) ∙ full-at last last-below) in
       full-set full₂ 0 sys′ (system-length G u d full-system (firstOf G s) to-file _ _)
 
   -- the other files stay as they were

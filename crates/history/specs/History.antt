@@ -12,7 +12,7 @@ use Rattle.format.specs.Refusals.{Try, Refusal, NAME, TAKEN, MODULE, ROOM, NOT-
 use Rattle.format.specs.Geometry.{Format, Geometry, sectors, Disc}
 use Rattle.format.specs.Names.{stored}
 use Rattle.format.specs.Layout.{slotsEach, nameOf, lengthOf, directory, entries}
-use Rattle.format.specs.Modules.{Module, allowed, sectorsFor}
+use Rattle.format.specs.Modules.{Module, storable, sectorsFor}
 use Rattle.format.specs.Effects.{reading}
 use Rattle.format.specs.Writes.{listSize}
 use Rattle.format.specs.Calls.{Answer, answered, ChangeAnswer, afterList, afterRead, afterSave, afterDelete, afterRename, afterProtect, afterCheck, viewNumber}
@@ -142,7 +142,7 @@ module _ (G : Geometry) (start : Disc) (b : Book) where
   unfoldable pub saveSays : (name : List ℕ) (m : Module) (room : ℕ) → Try Refusal (Unit {0})
   saveSays name m room = do
     nine ← stored name orRefuse NAME
-    refuse MODULE if not (allowed m)
+    refuse MODULE if not (storable m)
     refuse TAKEN if any (named nine) (b .files)
     refuse ROOM if ltb sumFree (sumNeed m)
     refuse SHORT if ltb room (listSize (sumNeed m + 2))

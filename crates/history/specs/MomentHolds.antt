@@ -21,7 +21,7 @@ use Rattle.format.specs.Names.{stored}
 use Rattle.format.specs.NameLaws.{legal-typed}
 use Rattle.format.specs.Layout.{slotsEach, Slot, nameOf, lengthOf, free, openSlot, find, fileSectors, places}
 use Rattle.format.specs.ChainLaws.{chain-ends}
-use Rattle.format.specs.Modules.{Module, allowed, sectorsFor}
+use Rattle.format.specs.Modules.{Module, storable, sectorsFor}
 use Rattle.format.specs.Effects.{growth, needed, saveWrites, reading}
 use Rattle.format.specs.Writes.{writeList, listSize}
 use Rattle.format.specs.Calls.{readOn, saveBeforeOn, saveOn, asked, listed, save, checkAnswerBy, readAnswerBy, afterCheck, afterRead, afterSave}
@@ -161,7 +161,7 @@ module _ {G : Geometry} {start d : Disc} {b : Book} (st : State G start d b) whe
       → number (saveOn G d name m >>= λ ws. (refuse SHORT if ltb room (length (writeList G ws)) >> ok (a ws))) ≡ number (saveSays G start b name m room)
   unfolding saveOn saveBeforeOn saveSays
   save-on name m room a =
-      rw (laid-sound (st .laid)) (same-answer (stored name) (not (allowed m)) (λ nine. isSome (find G d nine)) (λ nine. any (named nine) (b .files))
+      rw (laid-sound (st .laid)) (same-answer (stored name) (not (storable m)) (λ nine. isSome (find G d nine)) (λ nine. any (named nine) (b .files))
       (ltb (length (free G d)) (needed G d (length (m .bytes)))) (ltb (sumFree G start b) (sumNeed G start b m))
       (λ ws. ltb room (length (writeList G ws))) (ltb room (listSize (sumNeed G start b m + 2))) (λ nine. saveWrites G d nine m) a
       taken (ap₂ ltb (sym free-sum) (sym (need-is m))) (λ nine e. ap (ltb room) (list-size nine m e)))

@@ -13,7 +13,7 @@ use Rattle.lists.specs.ListLaws.{All, range-all, all-mapped}
 use Rattle.format.specs.Geometry.{Geometry, sectors, stop, go, pointed, Disc, sector}
 use Rattle.format.specs.GeometryLaws.{pointed-stop}
 use Rattle.format.specs.Names.{legalStored}
-use Rattle.format.specs.Layout.{inUsePlace, slotsEach, namePlace, lengthPlace, firstPlace, lastPlace, attributePlace}
+use Rattle.format.specs.Layout.{inUseOffset, slotsEach, nameOffset, lengthOffset, firstOffset, lastOffset, attributeOffset}
 use Rattle.format.specs.Layout.{attribute, isAttribute, Slot, freeSlot, inUse, slotAt, slotsAt, pairAt, pairBytes, linkOf}
 use Rattle.format.specs.Effects.{withSlot, headOf, entryBytes}
 use Rattle.soundness.specs.Slots.{isUsed, empty-free, inUse-one, inUse-none, slotBytes, zeros-slot}
@@ -36,22 +36,22 @@ module _ (G : Geometry) (u : Bounded G) (nine ns : List ℕ) (long : length nine
   unfolding after-name
   entry-length = ap length entry-is ∙ omega (arith, length-append nine after-name)
 
-  pub entry-name : take 9 (drop namePlace (entryBytes G nine ns)) ≡ nine
+  pub entry-name : take 9 (drop nameOffset (entryBytes G nine ns)) ≡ nine
   entry-name = ap (take 9) entry-is ∙ take-at nine after-name 9 long
 
-  pub entry-count : wordAt (entryBytes G nine ns) lengthPlace ≡ length ns
+  pub entry-count : wordAt (entryBytes G nine ns) lengthOffset ≡ length ns
   unfolding after-name
   entry-count = ap₂ (λ (a b : ℕ). a + 256 * b) (at-after 0) (at-after 1) ∙ omega arith
 
-  pub entry-first : Pointable G (headOf ns) → pairAt G (entryBytes G nine ns) firstPlace ≡ headOf ns
+  pub entry-first : Pointable G (headOf ns) → pairAt G (entryBytes G nine ns) firstOffset ≡ headOf ns
   unfolding after-name
   entry-first h = ap₂ (λ (a b : ℕ). pointed G a b) (at-after 3) (at-after 2) ∙ pair-back G u h
 
-  pub entry-last : lastOr 0 ns < sectors G → pairAt G (entryBytes G nine ns) lastPlace ≡ go (lastOr 0 ns)
+  pub entry-last : lastOr 0 ns < sectors G → pairAt G (entryBytes G nine ns) lastOffset ≡ go (lastOr 0 ns)
   unfolding after-name
   entry-last h = ap₂ (λ (a b : ℕ). pointed G a b) (at-after 5) (at-after 4) ∙ pair-back G u (to-sector (lastOr 0 ns) h)
 
-  entry-attribute : byte (entryBytes G nine ns) attributePlace ≡ attribute false
+  entry-attribute : byte (entryBytes G nine ns) attributeOffset ≡ attribute false
   unfolding after-name
   entry-attribute = at-after 6
 
@@ -75,7 +75,7 @@ module _ (e : List ℕ) (sixteen : length e ≡ 16) where
       (withSlot-head (replicate 256 0) 0 1 e sixteen 1 (omega arith))
       ∙ pointed-stop G 0 0 refl
 
-  pub new-directory-count : byte (newDirectory e) inUsePlace ≡ 1
+  pub new-directory-count : byte (newDirectory e) inUseOffset ≡ 1
   new-directory-count = withSlot-count (replicate 256 0) 0 1 e sixteen (omega arith)
 
   -- the entry is the only slot in use

@@ -14,23 +14,24 @@ use Rattle.lists.specs.ListLaws.{_also_, head-of, tail-of, all-map, all-join, a
 use Rattle.format.specs.Geometry.{Geometry, sectors, pointed, Disc, sector, written}
 use Rattle.format.specs.GeometryLaws.{sector-other, sector-same, Full, sector-full, full-set}
 use Rattle.format.specs.Names.{legalStored}
-use Rattle.format.specs.Layout.{inUsePlace, slotStart, namePlace, lengthPlace, firstPlace, lastPlace, attributePlace, isAttribute, Slot, inUse, nameOf, lengthOf, attributeOf, slotsAt, linkOf, firstOf, lastOf}
+use Rattle.format.specs.Layout.{inUseOffset, slotStart, nameOffset, lengthOffset, firstOffset, lastOffset, attributeOffset}
+use Rattle.format.specs.Layout.{isAttribute, Slot, inUse, nameOf, lengthOf, attributeOf, slotsAt, linkOf, firstOf, lastOf}
 use Rattle.format.specs.ChainLaws.{SameLink, chain-frame}
 use Rattle.format.specs.Effects.{slotWrite, reading}
 use Rattle.lists.specs.Counts.{once-parts, once-apart}
-use Rattle.lists.specs.Places.{Place}
+use Rattle.lists.specs.OneChanged.{OneChanged}
 use Rattle.lists.specs.Stores.{getD-sets-off}
 use Rattle.format.specs.NameCounts.{called, called-none, called-at, called-here, called-past}
-use Rattle.soundness.specs.Slots.{isUsed, place-used, slots-same}
+use Rattle.soundness.specs.Slots.{isUsed, change-used, slots-same}
 use Rattle.soundness.specs.SlotWrites.{store-head, withBytes, SlotChange, stored-change, change-link, change-sector, change-slots}
 use Rattle.format.specs.RuleLaws.{GoodEntry, Counted}
 use Rattle.soundness.specs.Filed.{good-used, entriesOf, chainsOf}
 use Rattle.soundness.specs.Laid.{Laid}
 use Rattle.soundness.specs.Frames.{file-frame, files-frame, chains-at, lengths-at}
 use Rattle.soundness.specs.Found.{home-once, home-low, home-high, home-apart, slot-length, slot-bytes, Found}
-use Rattle.history.specs.BookFiles.{fileOf, filesOf, filesOf-place}
+use Rattle.history.specs.BookFiles.{fileOf, filesOf, filesOf-changed}
 
--- the entry with xs stored from place k on
+-- the entry with xs stored from offset k on
 abbrev pub changedSlot : Slot → ℕ → List ℕ → Slot
 changedSlot s k xs = withBytes s (sets (s .bytes) k xs)
 
@@ -38,16 +39,16 @@ changedSlot s k xs = withBytes s (sets (s .bytes) k xs)
 pub record EntryChanged (G : Geometry) (d d′ : Disc) (dir frees : List ℕ) (s : Slot) (nine : List ℕ) : Type 0 where
   pub laid : Laid G d′ dir frees
   pub full : Full G d′
-  pub place : Place (filesOf G d dir) (filesOf G d′ dir) (fileOf G d s) (record { name = nine; count = lengthOf s; reading = reading G d s })
+  pub files : OneChanged (filesOf G d dir) (filesOf G d′ dir) (fileOf G d s) (record { name = nine; count = lengthOf s; reading = reading G d s })
   -- the entry, now with these bytes
   pub bytes : List ℕ
-  pub entries : Place (entriesOf d dir) (entriesOf d′ dir) s (withBytes s bytes)
+  pub entries : OneChanged (entriesOf d dir) (entriesOf d′ dir) s (withBytes s bytes)
   pub name : nameOf (withBytes s bytes) ≡ nine
 
 module _ {G : Geometry} {d : Disc} {dir frees nine : List ℕ} (l : Laid G d dir frees) (z : Full G d) (s : Slot) (f : Found G d dir nine s) where
   -- ---- any bytes that keep what a chain needs
   module _ (k : ℕ) (xs : List ℕ) (fit : k + length xs ≤ 16)
-      (keeps : (j : ℕ) → lengthPlace ≤ j → j < attributePlace → byte (sets (s .bytes) k xs) j ≡ byte (s .bytes) j)
+      (keeps : (j : ℕ) → lengthOffset ≤ j → j < attributeOffset → byte (sets (s .bytes) k xs) j ≡ byte (s .bytes) j)
       (legal′ : legalStored (nameOf (changedSlot s k xs)) ≡ true) (attribute′ : isAttribute (attributeOf (changedSlot s k xs)) ≡ true)
       (fresh : called (nameOf (changedSlot s k xs)) (entriesOf d dir) ≤ called (nameOf (changedSlot s k xs)) (s ∷ [])) where
     d′ : Disc
@@ -72,13 +73,13 @@ module _ {G : Geometry} {d : Disc} {dir frees nine : List ℕ} (l : Laid G d dir
         ]
 
     long′ : lengthOf (changedSlot s k xs) ≡ lengthOf s
-    long′ = ap₂ (λ (a b : ℕ). a + 256 * b) (keeps lengthPlace (omega arith) (omega arith)) (keeps (lengthPlace + 1) (omega arith) (omega arith))
+    long′ = ap₂ (λ (a b : ℕ). a + 256 * b) (keeps lengthOffset (omega arith) (omega arith)) (keeps (lengthOffset + 1) (omega arith) (omega arith))
 
     first′ : firstOf G (changedSlot s k xs) ≡ firstOf G s
-    first′ = ap₂ (λ (a b : ℕ). pointed G a b) (keeps (firstPlace + 1) (omega arith) (omega arith)) (keeps firstPlace (omega arith) (omega arith))
+    first′ = ap₂ (λ (a b : ℕ). pointed G a b) (keeps (firstOffset + 1) (omega arith) (omega arith)) (keeps firstOffset (omega arith) (omega arith))
 
     last′ : lastOf G (changedSlot s k xs) ≡ lastOf G s
-    last′ = ap₂ (λ (a b : ℕ). pointed G a b) (keeps (lastPlace + 1) (omega arith) (omega arith)) (keeps lastPlace (omega arith) (omega arith))
+    last′ = ap₂ (λ (a b : ℕ). pointed G a b) (keeps (lastOffset + 1) (omega arith) (omega arith)) (keeps lastOffset (omega arith) (omega arith))
 
     good′ : GoodEntry (changedSlot s k xs)
     good′ = record { legal = legal′; some-sector = omega (arith, long′, f .good .some-sector); attribute-right = attribute′ }
@@ -86,25 +87,25 @@ module _ {G : Geometry} {d : Disc} {dir frees nine : List ℕ} (l : Laid G d dir
     used′ : isUsed (changedSlot s k xs) ≡ true
     used′ = good-used (changedSlot s k xs) good′
 
-    entries-place : Place (entriesOf d dir) (entriesOf d′ dir) s (changedSlot s k xs)
-    entries-place = place-used (change-slots s (f .slot-of) change (home-once (l .filed) s (f .slot-of)) (λ m a ne. other m ne)) (f .used) used′
+    entries-changed : OneChanged (entriesOf d dir) (entriesOf d′ dir) s (changedSlot s k xs)
+    entries-changed = change-used (change-slots s (f .slot-of) change (home-once (l .filed) s (f .slot-of)) (λ m a ne. other m ne)) (f .used) used′
 
     counts′ : (n : ℕ) → Counted d n → Counted d′ n
     counts′ n c =
         elim (ℕ-discrete n (s .home)) [
           | yes e ↦
-              let p = place-used (change-sector s (f .slot-of) change) (f .used) used′ in
+              let p = change-used (change-sector s (f .slot-of) change) (f .used) used′ in
               let as-many : length (inUse (slotsAt d′ (s .home))) ≡ length (inUse (slotsAt d (s .home))) =
               ap length (p .now) ∙ length-append (p .pre) _ ∙ sym (ap length (p .was) ∙ length-append (p .pre) _) in
-              let count : byte (sector d′ (s .home)) inUsePlace ≡ byte (sector d (s .home)) inUsePlace =
-              ap (λ (r : List ℕ). byte r inUsePlace) here ∙ store-head (sector d (s .home)) (s .index) k xs fit inUsePlace (omega arith) in
+              let count : byte (sector d′ (s .home)) inUseOffset ≡ byte (sector d (s .home)) inUseOffset =
+              ap (λ (r : List ℕ). byte r inUseOffset) here ∙ store-head (sector d (s .home)) (s .index) k xs fit inUseOffset (omega arith) in
               subst (Counted d′) (sym e) (count ∙ subst (Counted d) e c ∙ sym as-many)
           | no e ↦ rw (other n e, slots-same d d′ n (other n e)) c
         ]
 
     laid′ : Laid G d′ dir frees
     laid′ =
-        let p = entries-place in
+        let p = entries-changed in
         let sys : sector d′ 0 ≡ sector d 0 = other 0 (λ e. omega (arith, home-low (l .filed) s (f .slot-of))) in
         let fs = rw (p .was) at (l .filed .good-chains) in
         let gs = rw (p .was) at (l .filed .good-entries) in
@@ -154,9 +155,9 @@ module _ {G : Geometry} {d : Disc} {dir frees nine : List ℕ} (l : Laid G d dir
           full = full-set z (s .home) _
               (length-sets (sector d (s .home)) (slotStart (s .index) + k) xs ∙ sector-full z (s .home) (home-high (l .filed) s (f .slot-of)));
           bytes = sets (s .bytes) k xs;
-          entries = entries-place;
+          entries = entries-changed;
           name = refl;
-          place = filesOf-place d′ dir (l .filed .good-chains) entries-place
+          files = filesOf-changed d′ dir (l .filed .good-chains) entries-changed
               (λ n h. other n (λ e. omega (arith, home-apart (l .filed) s (f .slot-of), ap (λ (m : ℕ). times m (chainsOf G d (entriesOf d dir))) e)))
               first′ last′ long′;
         }
@@ -164,26 +165,26 @@ module _ {G : Geometry} {d : Disc} {dir frees nine : List ℕ} (l : Laid G d dir
   -- ---- the two commands
 
   pub renamed-entry : (nine′ : List ℕ) → length nine′ ≡ 9 → legalStored nine′ ≡ true → called nine′ (entriesOf d dir) ≡ 0
-      → EntryChanged G d (written (slotWrite d s namePlace nine′ ∷ []) d) dir frees s nine′
+      → EntryChanged G d (written (slotWrite d s nameOffset nine′ ∷ []) d) dir frees s nine′
   renamed-entry nine′ long legal fresh =
       let sixteen = slot-length (l .filed) s (f .slot-of) z in
-      let name′ : nameOf (changedSlot s namePlace nine′) ≡ nine′ =
-      ap (take 9) (sets-eq nine′ (s .bytes) namePlace (omega arith)) ∙ take-at nine′ (drop (namePlace + length nine′) (s .bytes)) 9 long in
-      let past : (j : ℕ) → lengthPlace ≤ j → byte (sets (s .bytes) namePlace nine′) j ≡ byte (s .bytes) j = λ j h.
-      getD-sets-off nine′ (s .bytes) namePlace j 0 (λ a. omega arith) in
-      subst (EntryChanged G d (written (slotWrite d s namePlace nine′ ∷ []) d) dir frees s) name′
-      (entry-changed namePlace nine′ (omega arith) (λ j h k. past j h) (ap legalStored name′ ∙ legal)
-      (ap isAttribute (past attributePlace (omega arith)) ∙ f .good .attribute-right)
+      let name′ : nameOf (changedSlot s nameOffset nine′) ≡ nine′ =
+      ap (take 9) (sets-eq nine′ (s .bytes) nameOffset (omega arith)) ∙ take-at nine′ (drop (nameOffset + length nine′) (s .bytes)) 9 long in
+      let past : (j : ℕ) → lengthOffset ≤ j → byte (sets (s .bytes) nameOffset nine′) j ≡ byte (s .bytes) j = λ j h.
+      getD-sets-off nine′ (s .bytes) nameOffset j 0 (λ a. omega arith) in
+      subst (EntryChanged G d (written (slotWrite d s nameOffset nine′ ∷ []) d) dir frees s) name′
+      (entry-changed nameOffset nine′ (omega arith) (λ j h k. past j h) (ap legalStored name′ ∙ legal)
+      (ap isAttribute (past attributeOffset (omega arith)) ∙ f .good .attribute-right)
       (omega (arith, ap (λ (x : List ℕ). called x (entriesOf d dir)) name′)))
 
-  pub protected-entry : (a : ℕ) → isAttribute a ≡ true → EntryChanged G d (written (slotWrite d s attributePlace (a ∷ []) ∷ []) d) dir frees s (nameOf s)
+  pub protected-entry : (a : ℕ) → isAttribute a ≡ true → EntryChanged G d (written (slotWrite d s attributeOffset (a ∷ []) ∷ []) d) dir frees s (nameOf s)
   protected-entry a e =
       let sixteen = slot-length (l .filed) s (f .slot-of) z in
-      let name′ : nameOf (changedSlot s attributePlace (a ∷ [])) ≡ nameOf s = take-set-le 9 (s .bytes) attributePlace a (omega arith) in
+      let name′ : nameOf (changedSlot s attributeOffset (a ∷ [])) ≡ nameOf s = take-set-le 9 (s .bytes) attributeOffset a (omega arith) in
       let all = ap (λ (x : List ℕ). called x (entriesOf d dir)) name′ in
       let own = ap (λ (x : List ℕ). called x (s ∷ [])) name′ in
-      subst (EntryChanged G d (written (slotWrite d s attributePlace (a ∷ []) ∷ []) d) dir frees s) name′
-      (entry-changed attributePlace (a ∷ []) (omega arith) (λ j h k. getD-sets-off (a ∷ []) (s .bytes) attributePlace j 0 (λ i. absurd (omega arith)))
+      subst (EntryChanged G d (written (slotWrite d s attributeOffset (a ∷ []) ∷ []) d) dir frees s) name′
+      (entry-changed attributeOffset (a ∷ []) (omega arith) (λ j h k. getD-sets-off (a ∷ []) (s .bytes) attributeOffset j 0 (λ i. absurd (omega arith)))
       (ap legalStored name′ ∙ f .good .legal)
-      (ap isAttribute (getD-set-same (s .bytes) attributePlace a 0 (omega arith)) ∙ e)
+      (ap isAttribute (getD-set-same (s .bytes) attributeOffset a 0 (omega arith)) ∙ e)
       (omega (arith, all, l .filed .names-differ (nameOf s), own, called-here (nameOf s) s [] refl)))

@@ -18,13 +18,12 @@ use Rattle.format.specs.Formats.{GoodFormat, stated-cases}
 use Rattle.format.specs.GeometryLaws.{no-disc, geometry-ok, Full, sector-full, sector-again, flat-cut}
 use Rattle.format.specs.Names.{stored}
 use Rattle.format.specs.NameLaws.{stored-nine, stored-legal}
-use Rattle.format.specs.Layout.{slotStart, namePlace, Slot, nameOf, directory, free, find}
+use Rattle.format.specs.Layout.{slotStart, nameOffset, Slot, nameOf, directory, free, find}
 use Rattle.format.specs.Effects.{slotWrite}
 use Rattle.format.specs.Writes.{writeList}
 use Rattle.format.specs.WriteLaws.{list-long}
 use Rattle.format.specs.Calls.{renameOn, ChangeAnswer, changeAnswerBy}
 use Rattle.format.specs.CallLaws.{Renamed, rename-ok}
-use Rattle.lists.specs.Stores.{sets-again, sets-same}
 use Rattle.format.specs.NameCounts.{called, called-at, called-past, called-none}
 use Rattle.soundness.specs.SlotWrites.{withBytes}
 use Rattle.soundness.specs.Laid.{Laid, sound-laid}
@@ -75,13 +74,13 @@ module _ {G : Geometry} {d : Disc} (z : Full G d) {a b b′ c : List ℕ} {ws vs
   slot-again = Option·some-injective _ _ (sym (q′ .found) ∙ found-again)
 
   -- so what is left is the one rename
-  joined-is : written vs (written ws d) ≡ written (slotWrite d (q .s) namePlace (q′ .nine′) ∷ []) d
+  joined-is : written vs (written ws d) ≡ written (slotWrite d (q .s) nameOffset (q′ .nine′) ∷ []) d
   joined-is =
       ap (λ (us : List Write). written us (written ws d)) (sym (q′ .writes))
-      ∙ ap (λ (r : Slot). written (slotWrite (written ws d) r namePlace (q′ .nine′) ∷ []) (written ws d)) slot-again
-      ∙ ap (λ (us : List Write). written (slotWrite (written us d) (q .s) namePlace (q′ .nine′) ∷ []) (written us d)) (sym (q .writes))
-      ∙ sector-again d (q .s .home) (slotStart (q .s .index) + namePlace) _ (q′ .nine′) (omega (arith, z .many, on-disc))
-      ∙ ap (set d (q .s .home)) (sets-again (sector d (q .s .home)) (q .nine′) (q′ .nine′) (slotStart (q .s .index) + namePlace) 0
+      ∙ ap (λ (r : Slot). written (slotWrite (written ws d) r nameOffset (q′ .nine′) ∷ []) (written ws d)) slot-again
+      ∙ ap (λ (us : List Write). written (slotWrite (written us d) (q .s) nameOffset (q′ .nine′) ∷ []) (written us d)) (sym (q .writes))
+      ∙ sector-again d (q .s .home) (slotStart (q .s .index) + nameOffset) _ (q′ .nine′) (omega (arith, z .many, on-disc))
+      ∙ ap (set d (q .s .home)) (sets-again (sector d (q .s .home)) (q .nine′) (q′ .nine′) (slotStart (q .s .index) + nameOffset) 0
       (nine-b ∙ sym nine-c) (omega (arith, long, there .slot-of .index-low, nine-c)))
 
   -- where C isn't A nothing refuses that one
@@ -102,21 +101,21 @@ module _ {G : Geometry} {d : Disc} (z : Full G d) {a b b′ c : List ℕ} {ws vs
       ))
 
   direct-passes : (a′ c′ : List ℕ) → stored a′ ≡ stored a → stored c′ ≡ stored c → stored c ≢ stored a
-      → renameOn G d a′ c′ ≡ ok (slotWrite d (q .s) namePlace (q′ .nine′) ∷ [])
+      → renameOn G d a′ c′ ≡ ok (slotWrite d (q .s) nameOffset (q′ .nine′) ∷ [])
   unfolding renameOn _orRefuse_ refuse_if_ _>>_ _>>=_
   direct-passes a′ c′ same-a same-c ne = rw (same-a, same-c, q .typed, q′ .typed′, q .checked, q .found, q .unprotected, absent-before ne)
 
   -- where C is A it writes what stands
-  writes-nothing : stored c ≡ stored a → written (slotWrite d (q .s) namePlace (q′ .nine′) ∷ []) d ≡ d
+  writes-nothing : stored c ≡ stored a → written (slotWrite d (q .s) nameOffset (q′ .nine′) ∷ []) d ≡ d
   writes-nothing e =
       let sec : List ℕ = sector d (q .s .home) in
       let start : ℕ = slotStart (q .s .index) in
       let name : q′ .nine′ ≡ nameOf (q .s) = Option·some-injective _ _ (sym (q′ .typed′) ∙ e ∙ q .typed) ∙ sym (there .name) in
-      let stands : (j : ℕ) → j < length (q′ .nine′) → byte (q′ .nine′) j ≡ byte sec (start + namePlace + j) = λ j h.
+      let stands : (j : ℕ) → j < length (q′ .nine′) → byte (q′ .nine′) j ≡ byte sec (start + nameOffset + j) = λ j h.
       ap (λ (r : List ℕ). byte r j) name ∙ getD-take 9 (q .s .bytes) j 0 (omega (arith, nine-c))
       ∙ ap (λ (r : List ℕ). byte r j) (slot-bytes (l .filed) (q .s) (there .slot-of)) ∙ getD-take 16 (drop start sec) j 0 (omega (arith, nine-c))
       ∙ getD-drop start sec j 0 ∙ ap (byte sec) (omega arith) in
-      ap (set d (q .s .home)) (sets-same sec (q′ .nine′) (start + namePlace) 0 (omega (arith, long, nine-c, there .slot-of .index-low)) stands)
+      ap (set d (q .s .home)) (sets-same sec (q′ .nine′) (start + nameOffset) 0 (omega (arith, long, nine-c, there .slot-of .index-low)) stands)
       ∙ set-getD d (q .s .home) []
 
 -- ---- and on an image
@@ -131,7 +130,7 @@ join-of F f image a b c a′ b′ c′ same-a same same-c buffer buffer′ e e�
     let r = both-made f image G (g .1) (rename a b) buffer (rename b′ c) buffer′ e e′ in
     let q = rename-ok G d a b (r .ws) (r .passed) in
     let q′ = rename-ok G (written (r .ws) d) b′ c (r .vs) (r .passed′) in
-    let direct : List Write = slotWrite d (q .s) namePlace (q′ .nine′) ∷ [] in
+    let direct : List Write = slotWrite d (q .s) nameOffset (q′ .nine′) ∷ [] in
     let left = r .left-is ∙ ap (flat F G) (joined-is z same q q′) in (
       (λ ne.
           let passes = direct-passes z same q q′ a′ c′ same-a same-c ne in

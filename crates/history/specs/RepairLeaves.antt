@@ -13,7 +13,7 @@ use Rattle.lists.specs.ListLaws.{zero-or, All, all-map, times-join, times-here,
 use Rattle.lists.specs.Counts.{times-kept, times-lost, OneOf, one-of}
 use Rattle.format.specs.Geometry.{Geometry, sectors, Disc, sector, written}
 use Rattle.format.specs.GeometryLaws.{sector-other, sector-same, Full, sector-full, full-set}
-use Rattle.format.specs.Layout.{freePlace, directoryPlace, freeCountPlace, usedCountPlace, system, Slot}
+use Rattle.format.specs.Layout.{freeOffset, directoryOffset, freeCountOffset, usedCountOffset, system, Slot}
 use Rattle.format.specs.Layout.{lengthOf, pairAt, pairBytes, directoryPointer, entries, fileSectors}
 use Rattle.format.specs.ChainLaws.{Chain}
 use Rattle.format.specs.Effects.{body, headOf, chained, systemWrite, passing, unmet, repairWrites}
@@ -196,7 +196,7 @@ module _ {G : Geometry} {d : Disc} {dir : List ℕ} (ps : Passes G) (f : Filed G
 
   pointer : directoryPointer G d′ ≡ directoryPointer G d
   unfolding sys
-  pointer = ap (λ (r : List ℕ). pairAt G r directoryPlace) at-zero ∙ system-directory G d (headOf frees) (length frees) used
+  pointer = ap (λ (r : List ℕ). pairAt G r directoryOffset) at-zero ∙ system-directory G d (headOf frees) (length frees) used
 
   laid′ : Laid G d′ dir frees
   unfolding sys files
@@ -205,9 +205,9 @@ module _ {G : Geometry} {d : Disc} {dir : List ℕ} (ps : Passes G) (f : Filed G
         filed = frame-filed d′ f pointer stays;
         free-chain = rw at-zero (rw (system-free G u d full-system (headOf frees) to-free (length frees) used) threaded);
         once = rw (frame-met d′ f pointer stays) met-once;
-        free-counted = ap (λ (r : List ℕ). wordAt r freeCountPlace) at-zero
+        free-counted = ap (λ (r : List ℕ). wordAt r freeCountOffset) at-zero
             ∙ system-freed G u d full-system (headOf frees) to-free (length frees) used (omega (arith, total, u .few));
-        used-counted = ap (λ (r : List ℕ). wordAt r usedCountPlace) at-zero
+        used-counted = ap (λ (r : List ℕ). wordAt r usedCountOffset) at-zero
             ∙ system-used G u d full-system (headOf frees) to-free (length frees) used (omega (arith, total, used-is, u .few))
             ∙ used-is ∙ ap (λ (ss : List Slot). sum (map lengthOf ss)) (sym (frame-entries d′ f pointer stays));
       }
@@ -217,7 +217,7 @@ module _ {G : Geometry} {d : Disc} {dir : List ℕ} (ps : Passes G) (f : Filed G
   kept-bodies n h =
       chained-bodies G u (λ n. body (sector d n)) frees d₁ below (full₁ .many) (λ n. omega (arith, each n .one)) n h
 
-  kept-system : (k : ℕ) → (freePlace ≤ k → freePlace + 2 ≤ k) → (freeCountPlace ≤ k → freeCountPlace + 4 ≤ k) → byte sys k ≡ byte (system d) k
+  kept-system : (k : ℕ) → (freeOffset ≤ k → freeOffset + 2 ≤ k) → (freeCountOffset ≤ k → freeCountOffset + 4 ≤ k) → byte sys k ≡ byte (system d) k
   unfolding sys
   kept-system k h i = system-others G d (headOf frees) (length frees) used k h i
 
@@ -225,10 +225,10 @@ module _ {G : Geometry} {d : Disc} {dir : List ℕ} (ps : Passes G) (f : Filed G
   unfolding d′ rests
   ends h = chained-ends G frees rests d₁ (sym (length-map frees (λ n. body (sector d n)))) (all-map (λ n k. omega (arith, full₁ .many)) below) h
 
-  none-free : length frees ≡ 0 → (k : ℕ) → k < 2 → byte (sector d′ 0) (freePlace + k) ≡ 0
+  none-free : length frees ≡ 0 → (k : ℕ) → k < 2 → byte (sector d′ 0) (freeOffset + k) ≡ 0
   unfolding sys
   none-free h k few =
-      ap (λ (r : List ℕ). byte r (freePlace + k)) at-zero
+      ap (λ (r : List ℕ). byte r (freeOffset + k)) at-zero
       ∙ system-pair G u d full-system (headOf frees) to-free (length frees) used k few ∙ zeros frees h k few
     where
       zeros : (ns : List ℕ) → length ns ≡ 0 → (k : ℕ) → k < 2 → byte (pairBytes G (headOf ns)) k ≡ 0

@@ -12,7 +12,7 @@ use Rattle.format.specs.Geometry.{ten, Geometry, tracked, geometry, pointed, pl
 use Rattle.format.specs.Names.{letter, letters, beforeDot, afterDot, withExtension, stored, discName, spaced, legalStored}
 use Rattle.format.specs.Layout.{emptySlot, freeSlot, inUse, slotAt, slotsAt, slotsOf, met, ends, directory}
 use Rattle.format.specs.Layout.{free, slots, entries, openSlot, find, fileChain, fileSectors, nameOf}
-use Rattle.format.specs.Modules.{Module, allowed, sectorsFor, firstBody, laterBody, laterBodies, bodies, guessed, plain}
+use Rattle.format.specs.Modules.{Module, isModule, storable, sectorsFor, firstBody, laterBody, laterBodies, bodies, guessed, plain}
 use Rattle.format.specs.Check.{goodEntry, differ, rule1, rule2, counted, rule3, rule4, goodChain, rule5, filesHold, rule6, rule7, rule8, broken}
 use Rattle.format.specs.Effects.{withSlot, chained, systemWrite, entryBytes, growth, needed, entryWrites, saveWrites}
 use Rattle.format.specs.Effects.{deleteWrites, reading, passing, version, blankFree, blankSystem, blankDisc, unmet, repairWrites}
@@ -70,7 +70,7 @@ cuts image w n =
 rethreaded : List ℕ → List ℕ
 rethreaded image = free one (cut ten one (afterRepair ten image .image))
 
--- n bytes from a place on of an image after a repair
+-- n bytes from an offset on of an image after a repair
 mendedAt : List ℕ → (place n : ℕ) → List ℕ
 mendedAt image k n = take n (drop k (afterRepair ten image .image))
 
@@ -105,11 +105,11 @@ record Repairs : Type 0 where
 repair-rows : Repairs
 unfolding _>>=_ _>>_ refuse_if_ _orRefuse_ number valueOr ten geometry pointed placeOf sectorAt chunks reordered cut flat letter letters beforeDot afterDot
     withExtension stored discName spaced legalStored emptySlot freeSlot inUse slotAt slotsAt slotsOf met ends directory free slots entries openSlot find
-    fileChain fileSectors goodEntry differ rule1 rule2 counted rule3 rule4 goodChain rule5 filesHold rule6 rule7 rule8 broken allowed sectorsFor firstBody
-    laterBody laterBodies bodies guessed plain withSlot chained systemWrite entryBytes growth needed entryWrites saveWrites deleteWrites reading passing version
-    blankFree blankSystem blankDisc unmet repairWrites recordOf writeList heldAfter saveBeforeOn saveOn deleteOn renameOn protectOn replayOn repairOn asked
-    changed listed blank answerBy changeAnswerBy checkAnswerBy afterCheck afterSave afterDelete afterRename afterProtect afterReplay afterRepair afterBlank
-    writesOn afterWriting cutOn afterCut isDone one empty nameA nameB moduleOf saveA room withA cuts rethreaded mendedAt
+    fileChain fileSectors goodEntry differ rule1 rule2 counted rule3 rule4 goodChain rule5 filesHold rule6 rule7 rule8 broken isModule storable sectorsFor
+    firstBody laterBody laterBodies bodies guessed plain withSlot chained systemWrite entryBytes growth needed entryWrites saveWrites deleteWrites reading
+    passing version blankFree blankSystem blankDisc unmet repairWrites recordOf writeList heldAfter saveBeforeOn saveOn deleteOn renameOn protectOn replayOn
+    repairOn asked changed listed blank answerBy changeAnswerBy checkAnswerBy afterCheck afterSave afterDelete afterRename afterProtect afterReplay afterRepair
+    afterBlank writesOn afterWriting cutOn afterCut isDone one empty nameA nameB moduleOf saveA room withA cuts rethreaded mendedAt
 repair-rows =
     record {
       cut-save = refl;
@@ -166,12 +166,12 @@ record Speaks : Type 0 where
 speaks-rows : Speaks
 unfolding _>>=_ _>>_ refuse_if_ _orRefuse_ number valueOr ten geometry pointed placeOf sectorAt chunks reordered cut flat letter letters beforeDot afterDot
     withExtension stored discName spaced legalStored emptySlot freeSlot inUse slotAt slotsAt slotsOf met ends directory free slots entries openSlot find
-    fileChain fileSectors goodEntry differ rule1 rule2 counted rule3 rule4 goodChain rule5 filesHold rule6 rule7 rule8 broken allowed sectorsFor firstBody
-    laterBody laterBodies bodies guessed plain withSlot chained systemWrite entryBytes growth needed entryWrites saveWrites deleteWrites reading passing version
-    blankFree blankSystem blankDisc unmet repairWrites recordOf writeList heldAfter saveBeforeOn saveOn deleteOn renameOn protectOn replayOn repairOn asked
-    changed listed blank answerBy changeAnswerBy checkAnswerBy afterCheck afterSave afterDelete afterRename afterProtect afterReplay afterRepair afterBlank
-    writesOn afterWriting cutOn afterCut isDone step accepted entered openingBook happens afterCommand pulledBook afterPulled afterRepaired afterNew followed
-    settled ledgerAfter eventOf one empty nameA nameB moduleOf saveA room withA shown runOf pulledDelete saveB
+    fileChain fileSectors goodEntry differ rule1 rule2 counted rule3 rule4 goodChain rule5 filesHold rule6 rule7 rule8 broken isModule storable sectorsFor
+    firstBody laterBody laterBodies bodies guessed plain withSlot chained systemWrite entryBytes growth needed entryWrites saveWrites deleteWrites reading
+    passing version blankFree blankSystem blankDisc unmet repairWrites recordOf writeList heldAfter saveBeforeOn saveOn deleteOn renameOn protectOn replayOn
+    repairOn asked changed listed blank answerBy changeAnswerBy checkAnswerBy afterCheck afterSave afterDelete afterRename afterProtect afterReplay afterRepair
+    afterBlank writesOn afterWriting cutOn afterCut isDone step accepted entered openingBook happens afterCommand pulledBook afterPulled afterRepaired afterNew
+    followed settled ledgerAfter eventOf one empty nameA nameB moduleOf saveA room withA shown runOf pulledDelete saveB
 speaks-rows =
     record {
       silent-after-a-cut = refl;

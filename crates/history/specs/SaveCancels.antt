@@ -22,7 +22,7 @@ use Rattle.format.specs.Formats.{GoodFormat, stated-cases}
 use Rattle.format.specs.GeometryLaws.{no-disc, geometry-ok, pointed-only, pointed-on, Full, sector-full, cut-flat, flat-long, byte-cut, byte-at}
 use Rattle.format.specs.Names.{stored}
 use Rattle.format.specs.NameLaws.{stored-nine, stored-legal}
-use Rattle.format.specs.Layout.{freePlace, freeCountPlace, usedCountPlace, linkPlace, inUsePlace, slotStart}
+use Rattle.format.specs.Layout.{freeOffset, freeCountOffset, usedCountOffset, linkOffset, inUseOffset, slotStart}
 use Rattle.format.specs.Layout.{system, Slot, emptySlot, freeSlot, freePointer, directory, free, openSlot, find}
 use Rattle.format.specs.ChainLaws.{Chain, end, on, chains-alike}
 use Rattle.format.specs.Modules.{Module, sectorsFor, bodies}
@@ -51,17 +51,17 @@ use Rattle.history.specs.Twice.{both-made}
 
 -- the four bytes of the counts are bytes
 abbrev CountsBytes : Disc → Type 0
-CountsBytes d = (k : ℕ) → k < 4 → byte (system d) (freeCountPlace + k) < 256
+CountsBytes d = (k : ℕ) → k < 4 → byte (system d) (freeCountOffset + k) < 256
 
 same-bytes : {a b a′ b′ : ℕ} → a < 256 → b < 256 → a′ < 256 → b′ < 256 → a′ + 256 * b′ ≡ a + 256 * b → (a′ ≡ a) × (b′ ≡ b)
 same-bytes h k h′ k′ e = (omega arith, omega arith)
 
 module _ {G : Geometry} {d d′ : Disc} {dir frees : List ℕ} (u : Bounded G) (l : Laid G d dir frees) (l′ : Laid G d′ dir frees) where
-  pointer-alike : 0 < length frees → (k : ℕ) → k < 2 → byte (system d′) (freePlace + k) ≡ byte (system d) (freePlace + k)
+  pointer-alike : 0 < length frees → (k : ℕ) → k < 2 → byte (system d′) (freeOffset + k) ≡ byte (system d) (freeOffset + k)
   pointer-alike = by (l .free-chain) (l′ .free-chain)
     where
       by : {ns : List ℕ} → Chain G d (freePointer G d) ns → Chain G d′ (freePointer G d′) ns → 0 < length ns
-          → (k : ℕ) → k < 2 → byte (system d′) (freePlace + k) ≡ byte (system d) (freePlace + k)
+          → (k : ℕ) → k < 2 → byte (system d′) (freeOffset + k) ≡ byte (system d) (freeOffset + k)
       by (end e) (end e′) h k i = absurd (omega arith)
       by (on {n = n} e c) (on e′ c′) h zero i = pointed-only G (u .some-sector) _ _ n e′ .1 ∙ sym (pointed-only G (u .some-sector) _ _ n e .1)
       by (on {n = n} e c) (on e′ c′) h (suc zero) i = pointed-only G (u .some-sector) _ _ n e′ .0 ∙ sym (pointed-only G (u .some-sector) _ _ n e .0)
@@ -72,20 +72,20 @@ module _ {G : Geometry} {d d′ : Disc} {dir frees : List ℕ} (u : Bounded G) (
   Alike k = (byte (system d′) k ≡ byte (system d) k) × (byte (system d′) (k + 1) ≡ byte (system d) (k + 1))
 
   -- the counts are the same sixteen bits, and so the same bytes
-  counts-alike : CountsBytes d → CountsBytes d′ → (k : ℕ) → k < 4 → byte (system d′) (freeCountPlace + k) ≡ byte (system d) (freeCountPlace + k)
+  counts-alike : CountsBytes d → CountsBytes d′ → (k : ℕ) → k < 4 → byte (system d′) (freeCountOffset + k) ≡ byte (system d) (freeCountOffset + k)
   counts-alike small small′ = by
     where
-      freed : Alike freeCountPlace
+      freed : Alike freeCountOffset
       freed =
           same-bytes (small 0 (omega arith)) (small 1 (omega arith)) (small′ 0 (omega arith)) (small′ 1 (omega arith))
           (l′ .free-counted ∙ sym (l .free-counted))
 
-      used : Alike usedCountPlace
+      used : Alike usedCountOffset
       used =
           same-bytes (small 2 (omega arith)) (small 3 (omega arith)) (small′ 2 (omega arith)) (small′ 3 (omega arith))
           (omega (arith, l .used-counted, l′ .used-counted, laid-sum l, laid-sum l′))
 
-      by : (k : ℕ) → k < 4 → byte (system d′) (freeCountPlace + k) ≡ byte (system d) (freeCountPlace + k)
+      by : (k : ℕ) → k < 4 → byte (system d′) (freeCountOffset + k) ≡ byte (system d) (freeCountOffset + k)
       by zero h = freed .0
       by (suc zero) h = freed .1
       by (suc (suc zero)) h = used .0
@@ -167,16 +167,17 @@ module _ {G : Geometry} {d : Disc} {dir frees nine file rest : List ℕ} {bs : L
 
   -- one entry in use more, and one less
   count : ℕ
-  count = byte (sector d₁ (s .home)) inUsePlace - 1
+  count = byte (sector d₁ (s .home)) inUseOffset - 1
 
-  at-home : sector d₁ (s .home) ≡ withSlot sec (s .index) (byte sec inUsePlace + 1) entry
+  at-home : sector d₁ (s .home) ≡ withSlot sec (s .index) (byte sec inUseOffset + 1) entry
   unfolding d₁ sec entry
   at-home = open-home v s o unused
 
-  count-back : (j : ℕ) → j < 1 → byte (count ∷ []) j ≡ byte sec (inUsePlace + j)
+  count-back : (j : ℕ) → j < 1 → byte (count ∷ []) j ≡ byte sec (inUseOffset + j)
   unfolding count
   count-back zero h =
-      omega (arith, ap (λ (r : List ℕ). byte r inUsePlace) at-home, withSlot-count sec (s .index) (byte sec inUsePlace + 1) entry sixteen (omega (arith, long)))
+      let one-more = withSlot-count sec (s .index) (byte sec inUseOffset + 1) entry sixteen (omega (arith, long)) in
+      omega (arith, ap (λ (r : List ℕ). byte r inUseOffset) at-home, one-more)
   count-back (suc j) h = absurd (omega arith)
 
   slot-back : (j : ℕ) → j < length emptySlot → byte emptySlot j ≡ byte sec (slotStart (s .index) + j)
@@ -189,21 +190,21 @@ module _ {G : Geometry} {d : Disc} {dir frees nine file rest : List ℕ} {bs : L
   unfolding t withSlot count
   home-back =
       gone .at-home ∙ ap (λ (r : List ℕ). withSlot r (s .index) count emptySlot) at-home
-      ∙ store-twice sec ((byte sec inUsePlace + 1) ∷ []) entry (count ∷ []) emptySlot inUsePlace (slotStart (s .index)) 0
+      ∙ store-twice sec ((byte sec inUseOffset + 1) ∷ []) entry (count ∷ []) emptySlot inUseOffset (slotStart (s .index)) 0
       refl (sixteen ∙ sym empty-length) (omega (arith, long)) (omega (arith, long, empty-length, o .index-low)) count-back slot-back
 
   -- ---- 0/1, where the counts' bytes are bytes
 
   system-back : CountsBytes d → (k : ℕ) → byte (system d₂) k ≡ byte (system d) k
   system-back small k =
-      elim (decLe freePlace k) [
+      elim (decLe freeOffset k) [
         | no a ↦ stays k (λ h. absurd (a h)) (λ h. absurd (omega arith))
-        | yes a ↦ elim (decLe (freePlace + 2) k) [
-          | no b ↦ at freePlace a (pointer-alike (v .bounded) (v .laid) l₂ some-free (k - freePlace) (omega arith))
-          | yes b ↦ elim (decLe freeCountPlace k) [
+        | yes a ↦ elim (decLe (freeOffset + 2) k) [
+          | no b ↦ at freeOffset a (pointer-alike (v .bounded) (v .laid) l₂ some-free (k - freeOffset) (omega arith))
+          | yes b ↦ elim (decLe freeCountOffset k) [
             | no c ↦ stays k (λ h. b) (λ h. absurd (c h))
-            | yes c ↦ elim (decLe (freeCountPlace + 4) k) [
-              | no e ↦ at freeCountPlace c (counts-alike (v .bounded) (v .laid) l₂ small small₂ (k - freeCountPlace) (omega arith))
+            | yes c ↦ elim (decLe (freeCountOffset + 4) k) [
+              | no e ↦ at freeCountOffset c (counts-alike (v .bounded) (v .laid) l₂ small small₂ (k - freeCountOffset) (omega arith))
               | yes e ↦ stays k (λ h. b) (λ h. e)
             ]
           ]
@@ -216,11 +217,11 @@ module _ {G : Geometry} {d : Disc} {dir frees nine file rest : List ℕ} {bs : L
       small₂ : CountsBytes d₂
       small₂ k h =
           let full : length (system d₁) ≡ 256 = sector-full (facts .full) 0 (omega (arith, home-high (v .laid .filed) s o)) in
-          subst (λ (r : List ℕ). byte r (freeCountPlace + k) < 256) (sym (gone .at-system))
+          subst (λ (r : List ℕ). byte r (freeCountOffset + k) < 256) (sym (gone .at-system))
           (system-small G (v .bounded) d₁ full _ (chain-pointable (there .file .chained) (pointed-on G _ _)) _ _ k h)
 
       -- neither call changes another byte of it
-      stays : (k : ℕ) → (freePlace ≤ k → freePlace + 2 ≤ k) → (freeCountPlace ≤ k → freeCountPlace + 4 ≤ k) → byte (system d₂) k ≡ byte (system d) k
+      stays : (k : ℕ) → (freeOffset ≤ k → freeOffset + 2 ≤ k) → (freeCountOffset ≤ k → freeCountOffset + 4 ≤ k) → byte (system d₂) k ≡ byte (system d) k
       stays k h i =
           ap (λ (r : List ℕ). byte r k) (gone .at-system) ∙ system-others G d₁ _ _ _ k h i
           ∙ ap (λ (r : List ℕ). byte r k) (facts .at-system) ∙ system-others G d _ _ _ k h i
@@ -228,11 +229,11 @@ module _ {G : Geometry} {d : Disc} {dir frees nine file rest : List ℕ} {bs : L
   -- ---- every sector, the file's by the links of its chain
 
   links-back : (n : ℕ) → 0 < times n file
-      → (byte (sector d₂ n) (linkPlace + 1) ≡ byte (sector d n) (linkPlace + 1))
-      × (n ≢ lastOr 0 frees → byte (sector d₂ n) linkPlace ≡ byte (sector d n) linkPlace)
+      → (byte (sector d₂ n) (linkOffset + 1) ≡ byte (sector d n) (linkOffset + 1))
+      × (n ≢ lastOr 0 frees → byte (sector d₂ n) linkOffset ≡ byte (sector d n) linkOffset)
   links-back n h = chains-alike (v .bounded .some-sector) (v .laid .free-chain) (l₂ .free-chain) n (omega (arith, taken-times n))
 
-  back-but : CountsBytes d → (n k : ℕ) → elem n file && (leb 2 k || (eqb n (lastOr 0 frees) && eqb k linkPlace)) ≡ false
+  back-but : CountsBytes d → (n k : ℕ) → elem n file && (leb 2 k || (eqb n (lastOr 0 frees) && eqb k linkOffset)) ≡ false
       → let saved = savedOpen G d nine file bs s in
       byte (sector (written (deleteWrites G saved (newSlot G nine file (s .home) (s .index))) saved) n) k ≡ byte (sector d n) k
   unfolding d₂ d₁ t sec
@@ -249,7 +250,7 @@ module _ {G : Geometry} {d : Disc} {dir frees nine file rest : List ℕ} {bs : L
       ]
     where
       -- of the file's sectors bytes 2 on may differ, and the track byte of the old end
-      by : 0 < times n file → (k : ℕ) → leb 2 k || (eqb n (lastOr 0 frees) && eqb k linkPlace) ≡ false → byte (sector d₂ n) k ≡ byte (sector d n) k
+      by : 0 < times n file → (k : ℕ) → leb 2 k || (eqb n (lastOr 0 frees) && eqb k linkOffset) ≡ false → byte (sector d₂ n) k ≡ byte (sector d n) k
       by met zero e = links-back n met .1 (λ w. true≢false (sym (rw (eq-eqb n (lastOr 0 frees) w)) ∙ e))
       by met (suc zero) e = links-back n met .0
       by met (suc (suc k)) e = absurd (true≢false (sym (rw (le-leb 2 (suc (suc k)) (omega arith))) ∙ e))
@@ -304,7 +305,7 @@ cancel-of F f image G g bytes name again same m buffer buffer′ e no-growth e�
     let long = geometry-ok F (length image) G g .long in
     let long₂ = flat-long F G arr d₂ (b .full) in
     let small : 0 < sectors G → CountsBytes d = λ some k h.
-    subst (λ (x : ℕ). x < 256) (sym (byte-cut F G arr image 0 (freeCountPlace + k) some (omega arith))) (bytes (startOf F G 0 + (freeCountPlace + k))) in
+    subst (λ (x : ℕ). x < 256) (sym (byte-cut F G arr image 0 (freeCountOffset + k) some (omega arith))) (bytes (startOf F G 0 + (freeCountOffset + k))) in
     record {
       size = ap length (b .left-is) ∙ long₂ ∙ sym long;
       as-before = λ i h. ap (λ (r : List ℕ). byte r i) (b .left-is) ∙ elim (decLe (length image) i) [

@@ -15,7 +15,6 @@ use Rattle.format.specs.ChainLaws.{Chain, chain-met, SameLink, chain-frame}
 use Rattle.format.specs.Modules.{plain}
 use Rattle.format.specs.Effects.{body, entryBytes, reading}
 use Rattle.history.specs.History.{File}
-use Rattle.lists.specs.Counts.{last-of, once-parts, once-apart}
 use Rattle.format.specs.NameCounts.{called, called-none, called-join, called-at, called-here, called-past}
 use Rattle.format.specs.RuleLaws.{GoodEntry, GoodChain, Counted}
 use Rattle.soundness.specs.Filed.{entriesOf, chainsOf}

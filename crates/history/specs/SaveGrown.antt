@@ -14,10 +14,11 @@ use Rattle.lists.specs.Counts.{last-of, OneOf}
 use Rattle.lists.specs.Stores.{getD-sets-off, drop-sets}
 use Rattle.format.specs.Geometry.{Geometry, sectors, go, Disc, sector}
 use Rattle.format.specs.GeometryLaws.{sector-other, sector-same, Full, sector-full, full-set}
-use Rattle.format.specs.Layout.{linkPlace, inUsePlace, slotStart, Slot, inUse, slotsAt, slotsOf, linkBytes, linkOf, directoryPointer}
+use Rattle.format.specs.Layout.{linkOffset, inUseOffset, slotStart, Slot, inUse, slotsAt, slotsOf, linkBytes, linkOf, directoryPointer}
 use Rattle.format.specs.ChainLaws.{Chain, end, on, chain-join}
 use Rattle.format.specs.Effects.{withLink, entryBytes}
-use Rattle.soundness.specs.Slots.{inUse-join, slotBytes, slots-by}
+use Rattle.format.specs.SlotLaws.{inUse-join}
+use Rattle.soundness.specs.Slots.{slotBytes, slots-by}
 use Rattle.format.specs.RuleLaws.{GoodEntry, Counted}
 use Rattle.soundness.specs.Filed.{good-used, entriesOf, chainsOf}
 use Rattle.soundness.specs.Laid.{laid-one}
@@ -101,7 +102,7 @@ module _ {G : Geometry} {d : Disc} {dir frees nine file rest : List ℕ} {new : 
 
   full₃ : Full G d₃
   unfolding d₃ sec2
-  full₃ = full-set full₂′ last sec2 (length-sets (sector d last) linkPlace (linkBytes G (go new)) ∙ full-last)
+  full₃ = full-set full₂′ last sec2 (length-sets (sector d last) linkOffset (linkBytes G (go new)) ∙ full-last)
 
   at-last : sector d₃ last ≡ sec2
   unfolding d₃
@@ -141,7 +142,7 @@ module _ {G : Geometry} {d : Disc} {dir frees nine file rest : List ℕ} {new : 
       slots-by d d₃ n (λ j.
       elim (ℕ-discrete n last) [
         | yes w ↦ ap (λ (k : ℕ). slotBytes (sector d₃ k) j) w ∙ ap (λ (r : List ℕ). slotBytes r j) at-last
-            ∙ ap (take 16) (drop-sets (linkBytes G (go new)) (sector d last) linkPlace (slotStart j) (omega arith))
+            ∙ ap (take 16) (drop-sets (linkBytes G (go new)) (sector d last) linkOffset (slotStart j) (omega arith))
             ∙ ap (λ (k : ℕ). slotBytes (sector d k) j) (sym w)
         | no w ↦ ap (λ (r : List ℕ). slotBytes r j) (directory-stays n h w)
       ])
@@ -166,15 +167,15 @@ module _ {G : Geometry} {d : Disc} {dir frees nine file rest : List ℕ} {new : 
   unfolding sec2
   counts′ n h c =
       elim (ℕ-discrete n last) [
-        | yes w ↦ ap (λ (k : ℕ). byte (sector d₃ k) inUsePlace) w ∙ ap (λ (r : List ℕ). byte r inUsePlace) at-last
-            ∙ getD-sets-off (linkBytes G (go new)) (sector d last) linkPlace inUsePlace 0 (λ a. omega arith)
-            ∙ ap (λ (k : ℕ). byte (sector d k) inUsePlace) (sym w) ∙ c
-        | no w ↦ ap (λ (r : List ℕ). byte r inUsePlace) (directory-stays n h w) ∙ c
+        | yes w ↦ ap (λ (k : ℕ). byte (sector d₃ k) inUseOffset) w ∙ ap (λ (r : List ℕ). byte r inUseOffset) at-last
+            ∙ getD-sets-off (linkBytes G (go new)) (sector d last) linkOffset inUseOffset 0 (λ a. omega arith)
+            ∙ ap (λ (k : ℕ). byte (sector d k) inUseOffset) (sym w) ∙ c
+        | no w ↦ ap (λ (r : List ℕ). byte r inUseOffset) (directory-stays n h w) ∙ c
       ]
       ∙ sym (ap (λ (r : List Slot). length (inUse r)) (dir-slots n h))
 
   count-new : Counted d₃ new
-  count-new = ap (λ (r : List ℕ). byte r inUsePlace) at-new ∙ new-directory-count e sixteen ∙ sym (ap length only)
+  count-new = ap (λ (r : List ℕ). byte r inUseOffset) at-new ∙ new-directory-count e sixteen ∙ sym (ap length only)
 
   directory-chain : Chain G d₃ (directoryPointer G d) (dir ++ new ∷ [])
   unfolding last sec2

@@ -11,13 +11,13 @@ use lib.ListN.{length, set, length-append}
 use Rattle.lists.specs.Lists.{times, byte}
 use Rattle.lists.specs.ListLaws.{times-none, all-at, at-all}
 use Rattle.lists.specs.Counts.{OneOf}
-use Rattle.lists.specs.Places.{Place}
+use Rattle.lists.specs.OneChanged.{OneChanged}
 use Rattle.format.specs.Geometry.{Geometry, sectors, Disc, sector}
 use Rattle.format.specs.GeometryLaws.{sector-other, sector-same, Full, sector-full, full-set}
-use Rattle.format.specs.Layout.{inUsePlace, Slot, freeSlot, inUse, slotsOf, linkOf}
+use Rattle.format.specs.Layout.{inUseOffset, Slot, freeSlot, inUse, slotsOf, linkOf}
 use Rattle.format.specs.ChainLaws.{SameLink, chain-frame}
 use Rattle.format.specs.Effects.{withSlot, entryBytes}
-use Rattle.soundness.specs.Slots.{place-filled, SlotOf, slots-same}
+use Rattle.soundness.specs.Slots.{change-filled, SlotOf, slots-same}
 use Rattle.soundness.specs.SlotWrites.{withSlot-length, withSlot-count, withBytes, SlotChange, withSlot-change, change-link, change-sector, change-slots}
 use Rattle.format.specs.RuleLaws.{GoodEntry, Counted}
 use Rattle.soundness.specs.Filed.{good-used, entriesOf, chainsOf}
@@ -31,7 +31,7 @@ use Rattle.history.specs.SaveFacts.{SaveFacts}
 abbrev pub savedOpen : Geometry → Disc → (nine file : List ℕ) → List (List ℕ) → Slot → Disc
 savedOpen G d nine file bs s =
     set (withFile G d (file ++ []) file bs) (s .home)
-    (withSlot (sector d (s .home)) (s .index) (byte (sector d (s .home)) inUsePlace + 1) (entryBytes G nine file))
+    (withSlot (sector d (s .home)) (s .index) (byte (sector d (s .home)) inUseOffset + 1) (entryBytes G nine file))
 
 module _ {G : Geometry} {d : Disc} {dir frees nine file rest : List ℕ} {bs : List (List ℕ)} (v : Saving G d dir frees nine file [] rest bs)
     (s : Slot) (o : SlotOf d dir s) (unused : freeSlot s ≡ true) where
@@ -45,7 +45,7 @@ module _ {G : Geometry} {d : Disc} {dir frees nine file rest : List ℕ} {bs : L
   d₂ = withFile G d (file ++ []) file bs
 
   sec1 : List ℕ
-  sec1 = withSlot (sector d (s .home)) (s .index) (byte (sector d (s .home)) inUsePlace + 1) (entryBytes G nine file)
+  sec1 = withSlot (sector d (s .home)) (s .index) (byte (sector d (s .home)) inUseOffset + 1) (entryBytes G nine file)
 
   d₃ : Disc
   d₃ = set d₂ (s .home) sec1
@@ -69,7 +69,7 @@ module _ {G : Geometry} {d : Disc} {dir frees nine file rest : List ℕ} {bs : L
   unfolding d₂
   full₂ = withFile-full v
 
-  at-home : sector d₃ (s .home) ≡ withSlot (sector d (s .home)) (s .index) (byte (sector d (s .home)) inUsePlace + 1) e
+  at-home : sector d₃ (s .home) ≡ withSlot (sector d (s .home)) (s .index) (byte (sector d (s .home)) inUseOffset + 1) e
   unfolding d₃ sec1 e
   at-home = sector-same d₂ (s .home) sec1 (omega (arith, full₂ .many, home-high (v .laid .filed) s o))
 
@@ -97,16 +97,17 @@ module _ {G : Geometry} {d : Disc} {dir frees nine file rest : List ℕ} {bs : L
   change : SlotChange d d₃ s e
   change = withSlot-change d d₃ s _ e sixteen full-home (o .index-low) at-home
 
-  place : Place (slotsOf d dir) (slotsOf d₃ dir) s s′
+  slots-changed : OneChanged (slotsOf d dir) (slotsOf d₃ dir) s s′
   unfolding s′ e
-  place = change-slots s o change (home-once (v .laid .filed) s o) directory-stays
+  slots-changed = change-slots s o change (home-once (v .laid .filed) s o) directory-stays
 
   good′ : GoodEntry s′
   unfolding s′
   good′ = new-entry-good G (v .bounded) nine file (v .nine-long) (file-few v) (s .home) (s .index) (v .legal) (v .some-file)
 
-  gained : (entriesOf d dir ≡ inUse (place .pre) ++ inUse (place .post)) × (entriesOf d₃ dir ≡ inUse (place .pre) ++ s′ ∷ inUse (place .post))
-  gained = place-filled place unused (good-used s′ good′)
+  gained : (entriesOf d dir ≡ inUse (slots-changed .pre) ++ inUse (slots-changed .post))
+      × (entriesOf d₃ dir ≡ inUse (slots-changed .pre) ++ s′ ∷ inUse (slots-changed .post))
+  gained = change-filled slots-changed unused (good-used s′ good′)
 
   links : (n : ℕ) → 0 < times n dir → SameLink G d d₃ n
   links n h =
@@ -121,12 +122,12 @@ module _ {G : Geometry} {d : Disc} {dir frees nine file rest : List ℕ} {bs : L
       elim (ℕ-discrete n (s .home)) [
         | yes w ↦
             let p = change-sector s o change in
-            let q = place-filled p unused (good-used s′ good′) in
+            let q = change-filled p unused (good-used s′ good′) in
             let c′ : Counted d (s .home) = subst (Counted d) w c in
             let was = ap length (q .0) ∙ length-append (inUse (p .pre)) (inUse (p .post)) in
             let now = ap length (q .1) ∙ length-append (inUse (p .pre)) (s′ ∷ inUse (p .post)) in
             subst (Counted d₃) (sym w)
-            (ap (λ (r : List ℕ). byte r inUsePlace) at-home ∙ withSlot-count (sector d (s .home)) (s .index) _ e sixteen (omega (arith, full-home))
+            (ap (λ (r : List ℕ). byte r inUseOffset) at-home ∙ withSlot-count (sector d (s .home)) (s .index) _ e sixteen (omega (arith, full-home))
             ∙ omega (arith, c′, was, now))
         | no w ↦ rw (directory-stays n h w, slots-same d d₃ n (directory-stays n h w)) c
       ]
@@ -136,8 +137,8 @@ module _ {G : Geometry} {d : Disc} {dir frees nine file rest : List ℕ} {bs : L
   open-facts =
       record {
         full = full₃;
-        pre = inUse (place .pre);
-        post = inUse (place .post);
+        pre = inUse (slots-changed .pre);
+        post = inUse (slots-changed .post);
         before = gained .0;
         after = gained .1;
         directory-chain = chain-frame d₃ (v .laid .filed .directory-chain) (at-all dir links);
@@ -153,7 +154,7 @@ module _ {G : Geometry} {d : Disc} {dir frees nine file rest : List ℕ} {bs : L
 
   -- the directory's sector, and those that stay
   pub open-home : sector (savedOpen G d nine file bs s) (s .home)
-      ≡ withSlot (sector d (s .home)) (s .index) (byte (sector d (s .home)) inUsePlace + 1) (entryBytes G nine file)
+      ≡ withSlot (sector d (s .home)) (s .index) (byte (sector d (s .home)) inUseOffset + 1) (entryBytes G nine file)
   unfolding d₃ d₂ sec1 e
   open-home = at-home
 

@@ -13,11 +13,10 @@ use Rattle.lists.specs.Counts.{OneOf}
 use Rattle.format.specs.Geometry.{Geometry, sectors, Next, Disc, sector, written}
 use Rattle.format.specs.GeometryLaws.{pointed-on, sector-other, sector-same, Full, sector-full, full-set}
 use Rattle.format.specs.Names.{legalStored}
-use Rattle.format.specs.Layout.{freePlace, directoryPlace, freeCountPlace, usedCountPlace, system}
+use Rattle.format.specs.Layout.{freeOffset, directoryOffset, freeCountOffset, usedCountOffset, system}
 use Rattle.format.specs.Layout.{freeCount, usedCount, pairAt, linkOf, freePointer, directoryPointer}
 use Rattle.format.specs.ChainLaws.{Chain, on}
 use Rattle.format.specs.Effects.{body, headOf, chained, systemWrite}
-use Rattle.lists.specs.Counts.{OneOf}
 use Rattle.format.specs.NameCounts.{called}
 use Rattle.soundness.specs.Filed.{entriesOf, chainsOf}
 use Rattle.soundness.specs.Laid.{Laid, laid-one}
@@ -109,20 +108,20 @@ module _ {G : Geometry} {d : Disc} {dir frees nine file extra rest : List ℕ} {
 
   module _ (d′ : Disc) (at-zero : sector d′ 0 ≡ savedSystem G d (file ++ extra) (length file)) where
     pub saved-free : freePointer G d′ ≡ linkOf G (sector d (lastOr 0 (file ++ extra)))
-    saved-free = ap (λ (r : List ℕ). pairAt G r freePlace) at-zero ∙ system-free G (v .bounded) d full-system _ to-rest _ _
+    saved-free = ap (λ (r : List ℕ). pairAt G r freeOffset) at-zero ∙ system-free G (v .bounded) d full-system _ to-rest _ _
 
     pub saved-directory : directoryPointer G d′ ≡ directoryPointer G d
-    saved-directory = ap (λ (r : List ℕ). pairAt G r directoryPlace) at-zero ∙ system-directory G d _ _ _
+    saved-directory = ap (λ (r : List ℕ). pairAt G r directoryOffset) at-zero ∙ system-directory G d _ _ _
 
     pub saved-freed : freeCount d′ ≡ length rest
     saved-freed =
-        ap (λ (r : List ℕ). wordAt r freeCountPlace) at-zero
+        ap (λ (r : List ℕ). wordAt r freeCountOffset) at-zero
         ∙ system-freed G (v .bounded) d full-system _ to-rest (freeCount d - length (file ++ extra)) (usedCount d + length file)
         (omega (arith, v .laid .free-counted, laid-sum (v .laid), v .bounded .few))
         ∙ omega (arith, v .laid .free-counted, free-length, length-append file extra)
 
     pub saved-used : usedCount d′ ≡ usedCount d + length file
     saved-used =
-        ap (λ (r : List ℕ). wordAt r usedCountPlace) at-zero
+        ap (λ (r : List ℕ). wordAt r usedCountOffset) at-zero
         ∙ system-used G (v .bounded) d full-system _ to-rest (freeCount d - length (file ++ extra)) (usedCount d + length file)
         (omega (arith, v .laid .used-counted, laid-sum (v .laid), free-length, v .bounded .few))

@@ -18,17 +18,15 @@ use Rattle.format.specs.Geometry.{Geometry, Disc, Write, written}
 use Rattle.format.specs.GeometryLaws.{Full}
 use Rattle.format.specs.Names.{stored, legalStored}
 use Rattle.format.specs.NameLaws.{stored-nine, stored-legal}
-use Rattle.format.specs.Layout.{slotsEach, namePlace, attributePlace, attribute, isAttribute, protectedAs}
+use Rattle.format.specs.Layout.{slotsEach, nameOffset, attributeOffset, attribute, isAttribute, protectedAs}
 use Rattle.format.specs.Layout.{Slot, nameOf, lengthOf, attributeOf, directory, openSlot, fileChain}
 use Rattle.format.specs.Modules.{Module, sectorsFor, bodies, plain}
-use Rattle.format.specs.ModuleLaws.{plain-bodies}
+use Rattle.format.specs.ModuleLaws.{storable-module, plain-bodies}
 use Rattle.format.specs.Effects.{slotWrite, growth, needed, saveWrites, deleteWrites, reading}
 use Rattle.format.specs.Calls.{saveOn, deleteOn, renameOn, protectOn}
 use Rattle.format.specs.CallLaws.{save-ok, delete-ok, rename-ok, protect-ok}
 use Rattle.history.specs.History.{save, delete, rename, protect, File, Book, standing, named, nineOf, renamed, accepted, sumDirectory}
-use Rattle.lists.specs.Counts.{filter-parts}
 use Rattle.format.specs.NameCounts.{called}
-use Rattle.lists.specs.ListLaws.{true-same}
 use Rattle.soundness.specs.Filed.{entriesOf}
 use Rattle.soundness.specs.Laid.{Laid, free-is}
 use Rattle.soundness.specs.Found.{found, not-found, open-none, open-some}
@@ -74,7 +72,8 @@ module _ {G : Geometry} {start d : Disc} {b : Book} (u : Bounded G) (st : State 
       let f = found (st .laid .filed) (q .found) in
       let a : ℕ = protectedAs (not (eqb on 0)) (attributeOf (q .s)) in
       let r = protected-entry (st .laid) (st .full) (q .s) f a (either (not (eqb on 0))) in
-      let e : filesOf G (written (slotWrite d (q .s) attributePlace (a ∷ []) ∷ []) d) (st .dir) ≡ filesOf G d (st .dir) = r .place .now ∙ sym (r .place .was) in
+      let e : filesOf G (written (slotWrite d (q .s) attributeOffset (a ∷ []) ∷ []) d) (st .dir) ≡ filesOf G d (st .dir) =
+      r .files .now ∙ sym (r .files .was) in
       subst (λ (ws : List Write). State G start (written ws d) b) (q .writes)
       (record {
         dir = st .dir;
@@ -138,8 +137,8 @@ module _ {G : Geometry} {start d : Disc} {b : Book} (u : Bounded G) (st : State 
       ap₂ (λ (b : Bool) (z : List ℕ). record { name = cond b z (nameOf (q .s)); count = lengthOf (q .s); reading = reading G d (q .s) })
       it (nine-of new (q .typed′)) in
       let fs : List File = map (renamed x y) (b .files) in
-      let moved : map (renamed x y) (filesOf G d (st .dir)) ≡ filesOf G (written (slotWrite d (q .s) namePlace (q .nine′) ∷ []) d) (st .dir) =
-      changed-one (named x) (renamed x y) (r .place) (named-few (st .laid .filed) x) it others it′ in
+      let moved : map (renamed x y) (filesOf G d (st .dir)) ≡ filesOf G (written (slotWrite d (q .s) nameOffset (q .nine′) ∷ []) d) (st .dir) =
+      changed-one (named x) (renamed x y) (r .files) (named-few (st .laid .filed) x) it others it′ in
       let fewer : length fs ≤ b .peak = omega (arith, length-map (b .files) (renamed x y), st .below-peak) in
       subst (λ (ws : List Write). State G start (written ws d) (standing b fs)) (q .writes)
       (record {
@@ -163,7 +162,7 @@ module _ {G : Geometry} {start d : Disc} {b : Book} (u : Bounded G) (st : State 
       let room : sectorsFor (length (m .bytes)) + cond (isSome (openSlot G d)) 0 1 ≤ length (st .frees) =
       omega (arith, q .room, ap length (free-is (st .laid))) in
       subst (λ (ws : List Write). State G start (written ws d) (standing b (new ∷ b .files))) (q .writes)
-      (case (q .nine) (q .typed) (plain-bodies m small (q .fits)) (openSlot G d) refl room fresh
+      (case (q .nine) (q .typed) (plain-bodies m small (storable-module m (q .fits))) (openSlot G d) refl room fresh
       (stored-legal name (q .nine) (q .typed)) (stored-nine name (q .nine) (q .typed)))
     where
       new : File

@@ -1,25 +1,27 @@
--- Laws of Meaning: entries and records slot by slot, how many bytes they are, and where their bytes come from.
+-- Laws of Meaning: entries and records slot by slot, and how many bytes they are.
 -- Assumes nothing.
-use mathlib.Core.Path.{_≡_, refl, sym, ap, ap₂, _∙_}
-use Prim.Native.Nat.{ℕ, suc, _+_, _*_, _/_, _%_, _-_, _≤_, _<_}
+use mathlib.Core.Path.{_≡_, refl, ap, ap₂, _∙_}
+use Prim.Native.Nat.{ℕ, _+_, _*_, _/_, _%_, _≤_, _<_}
 use native.Mathlib.Omega.{arith}
-use mathlib.Core.Bool.{Bool, true, false, not}
+use mathlib.Core.Bool.{true, false, not}
 use mathlib.Core.List.{List, [], _∷_, _++_, map, append-assoc, append-nil}
-use lib.ListN.{length, take, drop, length-append, length-drop}
+use lib.ListN.{length, drop, length-append, length-drop}
 use lib.Seq.{length-take-le}
 use Rattle.geometry.specs.Laws.{image-full}
-use Rattle.lists.specs.Lists.{word, consIf, filter, joined}
+use Rattle.lists.specs.Lists.{word, joined}
 use Rattle.lists.specs.ListLaws.{All, done, _also_, all-map, all-filter, all-joined, all-mapped, range-all, joined-join}
-use Rattle.format.specs.Geometry.{Geometry, sectors, startOf, Disc, sector}
+use Rattle.lists.specs.Counts.{filter-parts}
+use Rattle.format.specs.Geometry.{Geometry, sectors, Disc, sector}
 use Rattle.format.specs.GeometryLaws.{pointed-on, sector-full}
 use Rattle.format.specs.ChainLaws.{met-few, met-below}
-use Rattle.format.specs.Layout.{discNamePlace, freeCount, usedCount, discNameOf, directoryPointer, directory, slots, entries}
-use Rattle.format.specs.Layout.{slotsEach, slotStart, Slot, freeSlot, inUse, nameOf, lengthOf, attributeOf, slotAt, slotsAt, slotsOf}
+use Rattle.format.specs.Layout.{discNameOffset, freeCount, usedCount, discNameOf, directoryPointer, directory, slots, entries}
+use Rattle.format.specs.Layout.{slotsEach, Slot, freeSlot, inUse, nameOf, lengthOf, attributeOf, slotAt, slotsAt, slotsOf}
+use Rattle.format.specs.SlotLaws.{inUse-join}
 use Rattle.format.specs.Effects.{listing}
-use Rattle.geometry.specs.Meaning.{geo, sectorsOf, Image, form}
+use Rattle.geometry.specs.Meaning.{geo, sectorsOf, Image}
 use Rattle.geometry.specs.declared.Geometry as code
-use Rattle.slots.specs.Laws.{name-front, name-nine, part-cut}
-use Rattle.slots.specs.InOrder.{slotsFrom, slots-next, slots-end, use-join, use-free, use-used}
+use Rattle.slots.specs.Laws.{name-nine}
+use Rattle.slots.specs.InOrder.{slotsFrom, slots-next, slots-end, use-free, use-used}
 use Rattle.directory.specs.Laws.{slots-none, slots-cons}
 use Rattle.listing.specs.Meaning.{discRecord, entryRecord, recordsOf}
 
@@ -40,7 +42,7 @@ records-none = refl
 
 records-join : (xs ys : List Slot) → recordsOf (xs ++ ys) ≡ recordsOf xs ++ recordsOf ys
 unfolding recordsOf
-records-join xs ys = ap (λ (ss : List Slot). joined (map entryRecord ss)) (use-join xs ys) ∙ joined-join entryRecord (inUse xs) (inUse ys)
+records-join xs ys = ap (λ (ss : List Slot). joined (map entryRecord ss)) (inUse-join xs ys) ∙ joined-join entryRecord (inUse xs) (inUse ys)
 
 module _ (d : Disc) where
   -- the slots of a sector from slot i on
@@ -48,7 +50,7 @@ module _ (d : Disc) where
     pub used-step : length (inUse (slotsFrom d n i)) ≡ length (inUse (slotAt d n i ∷ [])) + length (inUse (slotsFrom d n (i + 1)))
     used-step =
         ap (λ (ss : List Slot). length (inUse ss)) (slots-next d n i h)
-        ∙ ap length (use-join (slotAt d n i ∷ []) (slotsFrom d n (i + 1)))
+        ∙ ap length (inUse-join (slotAt d n i ∷ []) (slotsFrom d n (i + 1)))
         ∙ length-append (inUse (slotAt d n i ∷ [])) (inUse (slotsFrom d n (i + 1)))
 
     pub records-step : recordsOf (slotsFrom d n i) ≡ recordsOf (slotAt d n i ∷ []) ++ recordsOf (slotsFrom d n (i + 1))
@@ -63,7 +65,7 @@ module _ (d : Disc) where
     pub used-cons : length (inUse (slotsOf d (n ∷ ns))) ≡ length (inUse (slotsAt d n)) + length (inUse (slotsOf d ns))
     used-cons =
         ap (λ (ss : List Slot). length (inUse ss)) (slots-cons d n ns)
-        ∙ ap length (use-join (slotsAt d n) (slotsOf d ns))
+        ∙ ap length (inUse-join (slotsAt d n) (slotsOf d ns))
         ∙ length-append (inUse (slotsAt d n)) (inUse (slotsOf d ns))
 
     pub records-cons : recordsOf (slotsOf d (n ∷ ns)) ≡ recordsOf (slotsAt d n) ++ recordsOf (slotsOf d ns)
@@ -79,17 +81,9 @@ entries-are G d = refl
 
 -- ---- how many
 
-consIf-few : {A : Type 0} (b : Bool) (x : A) (xs : List A) (n : ℕ) → length xs ≤ n → length (consIf b x xs) ≤ suc n
-consIf-few true x xs n h = omega arith
-consIf-few false x xs n h = omega arith
-
-filter-few : {A : Type 0} (p : A → Bool) (xs : List A) → length (filter p xs) ≤ length xs
-filter-few p [] = omega arith
-filter-few p (x ∷ xs) = consIf-few (p x) x (filter p xs) (length xs) (filter-few p xs)
-
 pub used-few : (d : Disc) (n : ℕ) → length (inUse (slotsAt d n)) ≤ slotsEach
 unfolding inUse slotsAt
-used-few d n = filter-few (λ s. not (freeSlot s)) (slotsAt d n)
+used-few d n = omega (arith, filter-parts freeSlot (slotsAt d n))
 
 used-all : (d : Disc) (ns : List ℕ) → length (inUse (slotsOf d ns)) ≤ slotsEach * length ns
 used-all d [] = omega (arith, used-over d)
@@ -131,7 +125,7 @@ module _ {g : code.Geometry} {image : List ℕ} (im : Image g image) where
   disc-nine =
       let system : List ℕ = sector (sectorsOf g image) 0 in
       let long = sector-full (image-full im) 0 (omega (arith, im .valid .total)) in
-      length-take-le 9 (drop discNamePlace system) (omega (arith, length-drop discNamePlace system))
+      length-take-le 9 (drop discNameOffset system) (omega (arith, length-drop discNameOffset system))
 
   pub disc-long : length (discRecord (sectorsOf g image)) ≡ 14
   disc-long =
@@ -149,19 +143,6 @@ module _ {g : code.Geometry} {image : List ℕ} (im : Image g image) where
       ap length (listing-parts G d)
       ∙ length-append (discRecord d) (recordsOf (slots G d) ++ 0 ∷ [])
       ∙ omega (arith, disc-long, length-append (recordsOf (slots G d)) (0 ∷ []), all-long (all-filter (λ s. not (freeSlot s)) names-nine))
-
-  -- ---- where the bytes of a record come from
-
-  -- nine bytes of sector n from offset k on, where they lie in the image
-  pub nine-at : (n k start : ℕ) → n < g .sectors → k + 9 ≤ 256 → start ≡ startOf (form g) (geo g) n + k
-      → take (start + 9 - start) (drop start image) ≡ take 9 (drop k (sector (sectorsOf g image) n))
-  nine-at n k start on fits e =
-      let nine : start + 9 - start ≡ 9 = omega arith in
-      ap₂ (λ (L j : ℕ). take L (drop j image)) nine e ∙ part-cut im n k 9 on fits
-
-  pub name-at : (n i start : ℕ) → n < g .sectors → i < slotsEach → start ≡ startOf (form g) (geo g) n + slotStart i
-      → take (start + 9 - start) (drop start image) ≡ nameOf (slotAt (sectorsOf g image) n i)
-  name-at n i start on h e = nine-at n (slotStart i) start on (omega arith) e ∙ sym (name-front (sectorsOf g image) n i)
 
 -- the two bytes of a sixteen-bit number
 pub two-bytes : {low high m n : ℕ} → low ≡ m % 256 → high ≡ m / 256 % 256 → m ≡ n → _≡_ {A = List ℕ} (low ∷ high ∷ []) (word n)

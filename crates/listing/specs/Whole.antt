@@ -14,6 +14,12 @@ use Rattle.listing.specs.Laws.{listing-parts}
 use Rattle.records.specs.Storing.{Stored, Storing, storing-all, storing-step, storing-room}
 use Rattle.lists.specs.Stores.{sets-front}
 
+-- All but the last byte of the bytes all is stored, in b′ where there was b: there is room for that byte, and it makes them whole.
+pub record Ending (all b b′ : List ℕ) (last : ℕ) : Type 0 where
+  pub room : last < length b′
+  pub long : length b′ ≡ length b
+  pub whole : set b′ last 0 ≡ front all b
+
 module _ (G : Geometry) (d : Disc) (b : List ℕ) (room : length (listing G d) ≤ length b) where
   at-start : Storing b 0 (listing G d) b 0 (discRecord d ++ (recordsOf (slots G d) ++ 0 ∷ []))
   at-start = storing-all b 0 (listing-parts G d)
@@ -28,15 +34,11 @@ module _ (G : Geometry) (d : Disc) (b : List ℕ) (room : length (listing G d) �
     pub room-entries : at + length (recordsOf (slots G d)) ≤ length b′
     room-entries = storing-room (recordsOf (slots G d)) (0 ∷ []) after-disc refl (omega arith)
 
-    module _ {b″ : List ℕ} {last : ℕ} (entries : Stored b′ at (recordsOf (slots G d)) b″ last) where
-      after-entries : Storing b 0 (listing G d) b″ last (0 ∷ [])
-      after-entries = storing-step (recordsOf (slots G d)) (0 ∷ []) after-disc refl entries
-
-      pub room-last : last < length b″
-      room-last = omega (arith, storing-room (0 ∷ []) [] after-entries refl (omega arith))
-
-      pub same-long : length b″ ≡ length b
-      same-long = after-entries .long
-
-      pub whole : set b″ last 0 ≡ front (listing G d) b
-      whole = after-entries .buffer ∙ sets-front b (listing G d) room
+    pub ending : {b″ : List ℕ} {last : ℕ} → Stored b′ at (recordsOf (slots G d)) b″ last → Ending (listing G d) b b″ last
+    ending entries =
+        let stored = storing-step (recordsOf (slots G d)) (0 ∷ []) after-disc refl entries in
+        record {
+          room = omega (arith, storing-room (0 ∷ []) [] stored refl (omega arith));
+          long = stored .long;
+          whole = stored .buffer ∙ sets-front b (listing G d) room;
+        }

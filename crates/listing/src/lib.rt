@@ -1,7 +1,7 @@
 // List as a call: its refusals in document 01's order, then its records at the front of a lent buffer.
 // The length of the records and their bytes are what stands on the disc, sound or not.
 use answers::Filled;
-use directory::Step;
+use directory::Visit;
 use geometry::Geometry;
 use geometry::SectorNo;
 use geometry::Sized;
@@ -52,7 +52,7 @@ fn count_entries(image: &[u8], g: Geometry) -> usize
     let mut rest = directory::start(image, g);
     loop {
         let next = directory::advance(image, g, rest);
-        let Step::Sector(n, after) = next else {
+        let Visit::Sector(n, after) = next else {
             return count;
         };
         count += count_sector(image, g, n);
@@ -151,7 +151,7 @@ fn put_entries(image: &[u8], g: Geometry, buffer: &mut [u8], at: usize) -> usize
     let mut rest = directory::start(image, g);
     loop {
         let next = directory::advance(image, g, rest);
-        let Step::Sector(n, after) = next else {
+        let Visit::Sector(n, after) = next else {
             return position;
         };
         position = put_sector_records(image, g, n, buffer, position);

@@ -1,4 +1,4 @@
--- Elements and where they stand: the first place of a number, and the element at a place of a range.
+-- Elements and where they stand: the first index of a number, and the element at an index of a range.
 -- Assumes nothing.
 use mathlib.Core.Path.{_≡_, refl, sym, ap, _∙_}
 use mathlib.Core.Logic.{_≢_}

@@ -2,7 +2,7 @@ pub mod Lists
 pub mod ListLaws
 pub mod Permutations
 pub mod Counts
-pub mod Places
+pub mod OneChanged
 pub mod Stores
 pub mod OnlyOne
 pub mod Indices

@@ -9,7 +9,6 @@ use native.Mathlib.Decide.{ℕ-discrete}
 use mathlib.Core.Bool.{Bool, true, false, not, _&&_, and-assoc, true≢false, false≢true}
 use mathlib.Core.Option.{none, some}
 use mathlib.Core.List.{List, [], _∷_, _++_, map, head?, append-assoc}
-pub use mathlib.Core.List.{map-append as map-join}
 use lib.ListN.{length, getD, set, take, drop, replicate, length-append, length-replicate, take-append-drop}
 use lib.Seq.{take-nil}
 use lib.Dec.{eqb}
@@ -131,6 +130,26 @@ module _ {A : Type 0} where
   pub filter-whole : (p : A → Bool) {xs : List A} → All (λ x. p x ≡ true) xs → filter p xs ≡ xs
   filter-whole p done = refl
   filter-whole p (_also_ {x = x} {xs = xs} h hs) = filter-yes p x xs h ∙ ap (λ (r : List A). x ∷ r) (filter-whole p hs)
+
+  -- a second test changes nothing where the first one implies it
+  pub filter-filter : (p q : A → Bool) → ((a : A) → p a ≡ true → q a ≡ true) → (xs : List A) → filter p (filter q xs) ≡ filter p xs
+  filter-filter p q h [] = refl
+  filter-filter p q h (x ∷ xs) = by (q x) (p x) refl refl (filter-filter p q h xs)
+    where
+      by : (a b : Bool) → q x ≡ a → p x ≡ b → filter p (filter q xs) ≡ filter p xs → filter p (consIf a x (filter q xs)) ≡ consIf b x (filter p xs)
+      by true b e g i = rw g (ap (consIf b x) i)
+      by false true e g i = absurd (true≢false (sym (h x g) ∙ e))
+      by false false e g i = i
+
+  -- ---- the first element
+
+  pub head-left : (a : A) (xs ys : List A) → head? xs ≡ some a → head? (xs ++ ys) ≡ some a
+  head-left a [] ys e = cc
+  head-left a (x ∷ xs) ys e = e
+
+  pub head-right : (xs ys : List A) → head? xs ≡ none → head? (xs ++ ys) ≡ head? ys
+  head-right [] ys e = refl
+  head-right (x ∷ xs) ys e = cc
 
   -- the first element of a list has what all of them have
   pub head-all : (P : A → Type 0) {xs : List A} {x : A} → head? xs ≡ some x → All P xs → P x
@@ -331,7 +350,7 @@ last-apart zero x (y ∷ []) e = refl
 last-apart zero x (y ∷ z ∷ xs) e = absurd (omega arith)
 last-apart (suc k) x (y ∷ xs) e = ap (λ (r : List ℕ). y ∷ r) (last-apart k y xs (omega arith))
 
--- ---- an element by its place
+-- ---- an element by its index
 
 pub all-getD : {A : Type 0} {P : A → Type 0} {xs : List A} (n : ℕ) (z : A) → All P xs → n < length xs → P (getD xs n z)
 all-getD n z done h = absurd (omega arith)

@@ -9,7 +9,7 @@ use mathlib.Core.List.{List, [], _∷_, map, _++_, head?, map-append}
 use lib.ListN.{length, length-append, getElem?}
 use Rattle.lists.specs.Lists.{isSome, any, consIf, filter}
 use Rattle.lists.specs.ListLaws.{All, done, _also_, all-map, filter-join, filter-yes, filter-no, filter-whole, none-long}
-use Rattle.lists.specs.Places.{Place}
+use Rattle.lists.specs.OneChanged.{OneChanged}
 
 module _ {A : Type 0} (p : A → Bool) where
   none-pass : (xs : List A) → length (filter p xs) ≡ 0 → All (λ x. p x ≡ false) xs
@@ -37,7 +37,7 @@ module _ {A : Type 0} (p : A → Bool) where
       by true r = refl
       by false r = r
 
-  -- the element at a place, where it passes and one passes at most
+  -- the element at an index, where it passes and one passes at most
   pub one-at : (xs : List A) (i : ℕ) (x : A) → getElem? xs i ≡ some x → p x ≡ true → length (filter p xs) ≤ 1 → filter p xs ≡ x ∷ []
   one-at [] i x e q h = let z : _≡_ {A = ℕ} 0 1 = cc in absurd (omega arith)
   one-at (y ∷ ys) zero x e q h =
@@ -68,7 +68,7 @@ map-stays f done = refl
 map-stays f (h also hs) = ap₂ (λ (a : _) (r : List _). a ∷ r) h (map-stays f hs)
 
 -- the list with it changed
-pub changed-one : {A : Type 0} (p : A → Bool) (f : A → A) {xs ys : List A} {x y : A} → Place xs ys x y → length (filter p xs) ≤ 1 → p x ≡ true
+pub changed-one : {A : Type 0} (p : A → Bool) (f : A → A) {xs ys : List A} {x y : A} → OneChanged xs ys x y → length (filter p xs) ≤ 1 → p x ≡ true
     → ((z : A) → p z ≡ false → f z ≡ z) → f x ≡ y → map f xs ≡ ys
 changed-one {A} p f {x = x} {y = y} q h e stays e′ =
     let k = only-one p (q .pre) (q .post) x (rw (q .was) at h) e in
@@ -76,7 +76,7 @@ changed-one {A} p f {x = x} {y = y} q h e stays e′ =
     λ i. map-stays f (all-map stays (k .0)) i ++ e′ i ∷ map-stays f (all-map stays (k .1)) i in
     ap (map f) (q .was) ∙ map-append f (q .pre) (x ∷ q .post) ∙ now ∙ sym (q .now)
 
--- the element at a place has what all have
+-- the element at an index has what all have
 pub all-got : {A : Type 0} {P : A → Type 0} {xs : List A} (i : ℕ) (x : A) → All P xs → getElem? xs i ≡ some x → P x
 all-got i x done e = let z : _≡_ {A = ℕ} 0 1 = cc in absurd (omega arith)
 all-got {P = P} zero x (_also_ {x = y} h hs) e = let q : y ≡ x = cc in subst P q h

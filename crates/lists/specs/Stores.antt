@@ -1,4 +1,4 @@
--- Elements stored in a list from a place on: what is found there, and elsewhere, and what is stored over it.
+-- Elements stored in a list from an index on: what is found there, and elsewhere, and what is stored over it.
 -- Assumes nothing.
 use mathlib.Core.Path.{_≡_, refl, sym, ap, _∙_}
 use mathlib.Core.Logic.{_≢_}
@@ -11,14 +11,14 @@ use lib.Seq.{sets, length-sets, sets-eq, ext-getD, getD-set-other, getD-set-same
 use Rattle.lists.specs.Lists.{front}
 
 module _ {A : Type 0} where
-  -- a place that isn't stored to
+  -- an index that isn't stored to
   pub getD-sets-off : (vs l : List A) (i k : ℕ) (z : A) → (i ≤ k → i + length vs ≤ k) → getD (sets l i vs) k z ≡ getD l k z
   getD-sets-off [] l i k z h = refl
   getD-sets-off (v ∷ vs) l i k z h =
       let ne : k ≢ i = λ e. omega (arith, h (omega arith)) in
       getD-sets-off vs (set l i v) (suc i) k z (λ a. omega (arith, h (omega arith))) ∙ getD-set-other l i k v z ne
 
-  -- a place that is
+  -- an index that is
   pub getD-sets-in : (vs l : List A) (i k : ℕ) (z : A) → k < length vs → i + length vs ≤ length l → getD (sets l i vs) (i + k) z ≡ getD vs k z
   getD-sets-in [] l i k z h b = absurd (omega arith)
   getD-sets-in (v ∷ vs) l i zero z h b =
@@ -78,7 +78,7 @@ module _ {A : Type 0} where
   sets-whole l xs h =
       sets-eq xs l 0 (omega arith) ∙ ap (λ (r : List A). xs ++ r) (drop-of-length-le l {i = 0 + length xs} (omega arith)) ∙ append-nil xs
 
-  -- as many stored again in the same place
+  -- as many stored again at the same index
   pub sets-again : (l xs ys : List A) (i : ℕ) (z : A) → length xs ≡ length ys → i + length ys ≤ length l → sets (sets l i xs) i ys ≡ sets l i ys
   sets-again l xs ys i z e h =
       ext-getD z _ _ (length-sets (sets l i xs) i ys ∙ length-sets l i xs ∙ sym (length-sets l i ys)) (λ k n.
@@ -89,7 +89,7 @@ module _ {A : Type 0} where
   pub sets-same : (l xs : List A) (i : ℕ) (z : A) → i + length xs ≤ length l → ((j : ℕ) → j < length xs → getD xs j z ≡ getD l (i + j) z) → sets l i xs ≡ l
   sets-same l xs i z h e = ext-getD z _ _ (length-sets l i xs) (λ k n. store-back xs l l i k z h e (λ out. refl))
 
-  -- what stands in two places, stored there again after as much else was
+  -- what stands at two indices, stored there again after as much else was
   pub store-twice : (l xs ys xs′ ys′ : List A) (i j : ℕ) (z : A) → length xs ≡ length xs′ → length ys ≡ length ys′
       → i + length xs′ ≤ length l → j + length ys′ ≤ length l
       → ((a : ℕ) → a < length xs′ → getD xs′ a z ≡ getD l (i + a) z) → ((a : ℕ) → a < length ys′ → getD ys′ a z ≡ getD l (j + a) z)

@@ -1,4 +1,4 @@
--- Laws of writing a module: a sector written in parts, and the body of each of a module's sectors by its place.
+-- Laws of writing a module: a sector written in parts, and the body of each of a module's sectors by its index.
 -- Assumes nothing.
 use mathlib.Core.Path.{_≡_, refl, sym, ap, ap₂, _∙_}
 use Prim.Native.Nat.{ℕ, zero, suc, _+_, _*_, _-_, _≤_, _<_}

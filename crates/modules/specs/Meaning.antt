@@ -11,7 +11,7 @@ use Rattle.modules.specs.declared.Numbers.{Numbers}
 abbrev pub moduleOf : Numbers → List ℕ → Module
 moduleOf m xs = record { page = m .page; start = m .start; transfer = m .transfer; bytes = xs }
 
--- r is how many bytes there are from place `at` on, at most `most`
+-- r is how many bytes there are from offset `at` on, at most `most`
 pub record PartLength (xs : List ℕ) (at most r : ℕ) : Type 0 where
   pub long : r ≡ length (take most (drop at xs))
   pub few : r ≤ most

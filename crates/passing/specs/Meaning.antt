@@ -8,7 +8,7 @@ use Rattle.format.specs.Layout.{trackByte, sectorByte}
 use Rattle.format.specs.Effects.{headOf, passing}
 use Rattle.geometry.specs.Meaning.{geo, placeIn}
 use Rattle.geometry.specs.declared.Geometry.{Geometry}
-use Rattle.disc.specs.declared.Place.{Place}
+use Rattle.disc.specs.declared.Address.{Address}
 
 -- sector s of a track, and its place there
 pub record Stop (g : Geometry) (s r : ℕ) : Type 0 where
@@ -21,6 +21,6 @@ pub record Stops (g : Geometry) (xs : List ℕ) : Type 0 where
   pub at : (i : ℕ) → i < geo g .perTrack → Stop g (getD (geo g .order) i 0) (getD xs i 0)
 
 -- track and sector byte of what stands at position k of the passing order: of a sector, or zeros after the last
-pub record Passed (g : Geometry) (k : ℕ) (r : Place) : Type 0 where
+pub record Passed (g : Geometry) (k : ℕ) (r : Address) : Type 0 where
   pub track-is : r .track ≡ trackByte (geo g) (headOf (drop k (passing (geo g))))
   pub sector-is : r .sector ≡ sectorByte (geo g) (headOf (drop k (passing (geo g))))

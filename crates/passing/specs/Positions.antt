@@ -16,7 +16,7 @@ use Rattle.format.specs.Effects.{headOf, passing}
 use Rattle.geometry.specs.Meaning.{geo, Valid}
 use Rattle.geometry.specs.Laws.{good, number-on}
 use Rattle.geometry.specs.declared.Geometry.{Geometry}
-use Rattle.disc.specs.declared.Place.{Place}
+use Rattle.disc.specs.declared.Address.{Address}
 use Rattle.passing.specs.Meaning.{Stop, Passed}
 use Rattle.passing.specs.Passing.{passing-at, passing-long}
 use Rattle.passing.specs.Stops.{stop-sector}
@@ -73,7 +73,7 @@ module _ {g : Geometry} (v : Valid g) where
         position-is _ (track-inside track i on h)
         ∙ ap₂ (λ (t j : ℕ). sectorNumber (geo g) t (getD (geo g .order) j 0)) (track-of track i on h) (position-of-track track i on h)
 
-    pub passed-here : (r : Place) → r .track ≡ track → r .sector ≡ getD (geo g .order) i 0 → Passed g (geo g .perTrack * track + i) r
+    pub passed-here : (r : Address) → r .track ≡ track → r .sector ≡ getD (geo g .order) i 0 → Passed g (geo g .perTrack * track + i) r
     passed-here r e f =
         let w = order-range (good v) i h in
         let is = next-go _ (track-inside track i on h) ∙ ap go at-position in
@@ -83,13 +83,13 @@ module _ {g : Geometry} (v : Valid g) where
         }
 
   -- the first sector of a track
-  pub passed-first : (track : ℕ) → track < g .tracks → (r : Place) → r .track ≡ track → r .sector ≡ getD (geo g .order) 0 0
+  pub passed-first : (track : ℕ) → track < g .tracks → (r : Address) → r .track ≡ track → r .sector ≡ getD (geo g .order) 0 0
       → Passed g (geo g .perTrack * track) r
   passed-first track on r e f =
       let begin : geo g .perTrack * track + 0 ≡ geo g .perTrack * track = omega arith in
       subst (λ (k : ℕ). Passed g k r) begin (passed-here track 0 on (v .some-on-track) r e f)
 
-  pub passed-none : (k : ℕ) → g .sectors ≤ k → (r : Place) → r .track ≡ 0 → r .sector ≡ 0 → Passed g k r
+  pub passed-none : (k : ℕ) → g .sectors ≤ k → (r : Address) → r .track ≡ 0 → r .sector ≡ 0 → Passed g k r
   passed-none k h r e f = record { track-is = e ∙ sym (ap (trackByte (geo g)) (next-end k h)); sector-is = f ∙ sym (ap (sectorByte (geo g)) (next-end k h)) }
 
   pub position-high : (k : ℕ) → k < g .sectors → getD (passing (geo g)) k 0 < g .sectors

@@ -1,26 +1,23 @@
 -- Laws of copying: parts stored one after the other in a buffer, and the bytes of the module in a file.
 -- Assumes nothing.
 use mathlib.Core.Path.{_≡_, refl, sym, ap, ap₂, _∙_}
-use Prim.Native.Nat.{ℕ, zero, suc, min, _+_, _-_, _≤_, _<_}
+use Prim.Native.Nat.{ℕ, zero, suc, min, _+_, _-_, _≤_}
 use native.Mathlib.Omega.{arith}
 use native.Mathlib.Nat.{suc-sub-suc}
 use mathlib.Core.Option.{Option, none, some}
 use mathlib.Core.List.{List, [], _∷_, _++_}
-use lib.ListN.{length, set, take, drop, length-drop}
+use lib.ListN.{length, take, drop, length-drop}
 use lib.Seq.{sets, length-sets, slice, drop-drop, take-all}
-use Rattle.lists.specs.Lists.{byte}
 use Rattle.lists.specs.ListLaws.{drop-take, take-part}
 use Rattle.format.specs.Geometry.{sector}
 use Rattle.format.specs.Modules.{Module, guessed, plain}
 use Rattle.geometry.specs.Meaning.{sectorsOf}
 use Rattle.geometry.specs.declared.Geometry.{Geometry}
 use Rattle.lists.specs.Stores.{sets-append}
-pub use Rattle.lists.specs.Stores.{sets-front as stored-front}
 use Rattle.reading.specs.Plain.{laterBytes, sizeOf}
 use Rattle.reading.specs.Meaning.{bodiesOf, fileBodies, bodiesAfter, File, Copied, headerOf, bytesIn}
 use Rattle.reading.specs.PartLaws.{take-min}
 use Rattle.reading.specs.PlainLaws.{plain-guessed}
-use Rattle.reading.specs.SectorLaws.{slice-step}
 use Rattle.reading.specs.FileLaws.{file-first}
 
 -- ---- copied parts
@@ -30,13 +27,6 @@ pub slice-front : (xs : List ℕ) (a t m size : ℕ) → a ≤ t → size ≡ mi
 slice-front xs a t m size h e =
     let end : min (a + m) t ≡ a + size = omega arith in
     sym (drop-take a m (take t xs)) ∙ ap (drop a) (take-min (a + m) t xs ∙ ap (λ (k : ℕ). take k xs) end)
-
--- a loop that stores the bytes of xs from position a on in a buffer from position b on
-pub copy-step : (xs buffer : List ℕ) (a b i e : ℕ) → a + i < e → e ≤ length xs
-    → sets (set buffer (b + i) (byte xs (a + i))) (b + (i + 1)) (slice (a + (i + 1)) e xs) ≡ sets buffer (b + i) (slice (a + i) e xs)
-copy-step xs buffer a b i e h k =
-    let next : b + (i + 1) ≡ suc (b + i) = omega arith in
-    rw (next, slice-step xs a i e h k)
 
 -- a front of xs ++ ys: a front of xs, and what is left to take of ys
 take-over : (q : ℕ) (xs ys : List ℕ) → take q (xs ++ ys) ≡ take q xs ++ take (q - length (take q xs)) ys

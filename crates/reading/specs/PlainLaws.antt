@@ -13,8 +13,8 @@ use lib.Dec.{eqb, leb}
 use borrow.Author.Tests.{eq-eqb, ne-eqb, eqb-true, le-leb, leb-true}
 use Rattle.lists.specs.Lists.{byte, word, wordAt, padded, sameAll}
 use Rattle.lists.specs.ListLaws.{and-true, true-and, All, done, _also_, sameAll-refl, sameAll-true}
-use Rattle.format.specs.Modules.{Module, endOf, allowed, sectorsFor, firstBody, laterBody, laterBodies, bodies, guessed, plain}
-use Rattle.format.specs.ModuleLaws.{Allowed, allowed-true, true-allowed, sectors-fit, bodies-many}
+use Rattle.format.specs.Modules.{Module, endOf, isModule, sectorsFor, firstBody, laterBody, laterBodies, bodies, guessed, plain}
+use Rattle.format.specs.ModuleLaws.{IsModule, module-true, true-module, sectors-fit, bodies-many}
 use Rattle.reading.specs.Plain.{sizeOf, filled, numbered, headed, laterFilled, laterBytes}
 use Rattle.reading.specs.PartLaws.{part, part-filled, filled-part, first-part, other-parts}
 
@@ -177,10 +177,10 @@ module _ (b : List ℕ) (bs : List (List ℕ)) (long : length b ≡ 254) (longs 
     unfolding guessed
     end-right = omega (arith, size-right)
 
-    tests-allowed : allowed (guessed (b ∷ bs)) ≡ true
+    tests-module : isModule (guessed (b ∷ bs)) ≡ true
     unfolding guessed
-    tests-allowed =
-        true-allowed (guessed (b ∷ bs))
+    tests-module =
+        true-module (guessed (b ∷ bs))
         (record { pages = h .pages; some-byte = omega (arith, size-right); within = omega (arith, size-right, small 4 (omega arith), small 5 (omega arith)) })
 
     tests-first : firstBody (guessed (b ∷ bs)) ≡ b
@@ -204,7 +204,7 @@ module _ (b : List ℕ) (bs : List (List ℕ)) (long : length b ≡ 254) (longs 
         (ap₂ laterBodies n later-parts ∙ filled-later (sizeOf b - 245) longs f)
 
   -- and where the sectors are those of the module, the tests hold
-  module _ (a : Allowed (guessed (b ∷ bs))) (e : bodies (guessed (b ∷ bs)) ≡ b ∷ bs) where
+  module _ (a : IsModule (guessed (b ∷ bs))) (e : bodies (guessed (b ∷ bs)) ≡ b ∷ bs) where
     -- the first sector: the header, and the part after it
     split : header (guessed (b ∷ bs)) ++ part (sizeOf b) (drop 8 b) ≡ b
     unfolding bodies
@@ -246,23 +246,23 @@ module _ (b : List ℕ) (bs : List (List ℕ)) (long : length b ≡ 254) (longs 
   pub headed-end : headed b (length (b ∷ bs)) ≡ true → endOf (guessed (b ∷ bs)) ≡ wordAt b 4
   headed-end e = end-right (headed-true b _ e)
 
-  tests : allowed (guessed (b ∷ bs)) && sameAll (bodies (guessed (b ∷ bs))) (b ∷ bs) ≡ headed b (length (b ∷ bs)) && laterFilled (sizeOf b - 245) bs
+  tests : isModule (guessed (b ∷ bs)) && sameAll (bodies (guessed (b ∷ bs))) (b ∷ bs) ≡ headed b (length (b ∷ bs)) && laterFilled (sizeOf b - 245) bs
   tests = both-ways _ _ there back
     where
-      there : allowed (guessed (b ∷ bs)) && sameAll (bodies (guessed (b ∷ bs))) (b ∷ bs) ≡ true
+      there : isModule (guessed (b ∷ bs)) && sameAll (bodies (guessed (b ∷ bs))) (b ∷ bs) ≡ true
           → headed b (length (b ∷ bs)) && laterFilled (sizeOf b - 245) bs ≡ true
       there e =
-          let h = and-true (allowed (guessed (b ∷ bs))) (sameAll (bodies (guessed (b ∷ bs))) (b ∷ bs)) e in
-          let a = allowed-true (guessed (b ∷ bs)) (h .0) in
+          let h = and-true (isModule (guessed (b ∷ bs))) (sameAll (bodies (guessed (b ∷ bs))) (b ∷ bs)) e in
+          let a = module-true (guessed (b ∷ bs)) (h .0) in
           let same = sameAll-true (bodies (guessed (b ∷ bs))) (b ∷ bs) (h .1) in
           true-and (true-headed b (length (b ∷ bs)) (bodies-headed a same)) (bodies-later a same)
 
       back : headed b (length (b ∷ bs)) && laterFilled (sizeOf b - 245) bs ≡ true
-          → allowed (guessed (b ∷ bs)) && sameAll (bodies (guessed (b ∷ bs))) (b ∷ bs) ≡ true
+          → isModule (guessed (b ∷ bs)) && sameAll (bodies (guessed (b ∷ bs))) (b ∷ bs) ≡ true
       back e =
           let h = and-true (headed b (length (b ∷ bs))) (laterFilled (sizeOf b - 245) bs) e in
           let k = headed-true b (length (b ∷ bs)) (h .0) in
-          true-and (tests-allowed k) (ap (λ (cs : List (List ℕ)). sameAll cs (b ∷ bs)) (tests-bodies k (h .1)) ∙ sameAll-refl (b ∷ bs))
+          true-and (tests-module k) (ap (λ (cs : List (List ℕ)). sameAll cs (b ∷ bs)) (tests-bodies k (h .1)) ∙ sameAll-refl (b ∷ bs))
 
   -- `plain` sector by sector
   pub plain-is : plain (b ∷ bs) ≡ cond (headed b (length (b ∷ bs)) && laterFilled (sizeOf b - 245) bs) (some (guessed (b ∷ bs))) none
@@ -272,7 +272,7 @@ module _ (b : List ℕ) (bs : List (List ℕ)) (long : length b ≡ 254) (longs 
 -- what is read is what the header says, with the bytes that follow
 pub plain-guessed : (bs : List (List ℕ)) (m : Module) → plain bs ≡ some m → guessed bs ≡ m
 unfolding plain
-plain-guessed bs m e = by (allowed (guessed bs) && sameAll (bodies (guessed bs)) bs) e
+plain-guessed bs m e = by (isModule (guessed bs) && sameAll (bodies (guessed bs)) bs) e
   where
     by : (t : Bool) → cond t (some (guessed bs)) none ≡ some m → guessed bs ≡ m
     by true q = cc

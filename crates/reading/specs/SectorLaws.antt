@@ -1,12 +1,12 @@
 -- Laws of one sector: its bytes where they lie in the image, and how it is filled.
 -- Assumes nothing.
 use mathlib.Core.Path.{_≡_, refl, sym, ap, _∙_}
-use Prim.Native.Nat.{ℕ, zero, suc, min, _+_, _-_, _≤_, _<_}
+use Prim.Native.Nat.{ℕ, zero, suc, min, _+_, _-_, _<_}
 use native.Mathlib.Omega.{arith}
 use mathlib.Core.Bool.{Bool, false, _&&_}
 use mathlib.Core.List.{List, [], _∷_}
 use lib.ListN.{length, take, drop, length-take, length-drop}
-use lib.Seq.{slice, slice-cons, slice-empty, getD-drop, drop-cons, drop-drop}
+use lib.Seq.{slice, getD-drop, drop-cons, drop-drop}
 use lib.Dec.{eqb}
 use borrow.Author.Tests.{eq-eqb, ne-eqb}
 use Rattle.geometry.specs.Laws.{each-once}
@@ -28,22 +28,6 @@ sector-from {g} {image} i n k on =
     let start : ℕ = startOf (form g) (geo g) n in
     ap (drop k) (sector-cut (form g) (geo g) (each-once (i .valid)) image n (omega (arith, i .valid .total)) ∙ sym (drop-take start 256 image))
     ∙ drop-drop k start (take (start + 256) image)
-
--- a loop over the positions from a + i on, up to e
-module _ (xs : List ℕ) (a i e : ℕ) (before : a + i < e) (inside : e ≤ length xs) where
-  pub slice-step : slice (a + i) e xs ≡ byte xs (a + i) ∷ slice (a + (i + 1)) e xs
-  slice-step =
-      let next : suc (a + i) ≡ a + (i + 1) = omega arith in
-      slice-cons (a + i) e xs 0 before inside ∙ ap (λ (j : ℕ). byte xs (a + i) ∷ slice j e xs) next
-
-  pub zeros-step : byte xs (a + i) ≡ 0 → all (eqb 0) (slice (a + (i + 1)) e xs) ≡ all (eqb 0) (slice (a + i) e xs)
-  zeros-step z = rw slice-step (simp (eq-eqb 0 _ (sym z)))
-
-  pub zeros-stop : (byte xs (a + i) ≡ 0 → ⊥) → all (eqb 0) (slice (a + i) e xs) ≡ false
-  zeros-stop z = rw slice-step (simp (ne-eqb 0 _ (λ q. z (sym q))))
-
-pub slice-end : (xs : List ℕ) (a i e : ℕ) → a + i ≡ e → slice (a + i) e xs ≡ []
-slice-end xs a i e h = ap (λ (j : ℕ). slice j e xs) h ∙ slice-empty e xs
 
 -- what stands in an image are bytes
 pub body-small : {g : Geometry} {image : List ℕ} → Image g image → ((i : ℕ) → byte image i < 256)

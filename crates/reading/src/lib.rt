@@ -86,7 +86,13 @@ fn filled_at(image: &[u8], g: Geometry, s: Sector, k: usize, left: usize) -> boo
 fn numbers_ok(mark: u8, page: u8, start: u16, end: u16) -> bool
     ensures { λ r. ⌜ r ≡ eqb mark 0xFF && leb page 7 && leb start end ⌝ }
 {
-    mark == 0xFF && page <= 7 && start <= end
+    if mark != modules::MODULE {
+        return false;
+    }
+    if !modules::is_page(page as u32) {
+        return false;
+    }
+    start <= end
 }
 
 // The numbers that sector n has if it is the first of a module; `ok` says whether they can be those of one.
@@ -94,11 +100,11 @@ fn numbers_of(image: &[u8], g: Geometry, n: SectorNo) -> Header
     requires { ⌜ Image g (now image) × (n .0 < g .sectors) ⌝ }
     ensures { λ r. ⌜ r ≡ numbersIn (bodyOf g (now (image .entry)) (n .0)) ⌝ }
 {
-    let mark = disc::byte_of(image, g, n, 2);
-    let page = disc::byte_of(image, g, n, 3);
-    let start = disc::word_of(image, g, n, 4);
-    let end = disc::word_of(image, g, n, 6);
-    let transfer = disc::word_of(image, g, n, 8);
+    let mark = disc::byte_of(image, g, n, modules::BEGINNING);
+    let page = disc::byte_of(image, g, n, modules::PAGE);
+    let start = disc::word_of(image, g, n, modules::START);
+    let end = disc::word_of(image, g, n, modules::END);
+    let transfer = disc::word_of(image, g, n, modules::TRANSFER);
     let length = saturating_sub(end as usize + 1, start as usize);
     Header {
         ok: numbers_ok(mark, page, start, end),
@@ -125,7 +131,7 @@ fn first_header(image: &[u8], g: Geometry, s: Sector, count: usize) -> Header
     if modules::sectors_for(length) != count {
         return NOT_PLAIN;
     }
-    if !filled_at(image, g, s, 10, length) {
+    if !filled_at(image, g, s, modules::FIRST_LENGTH, length) {
         return NOT_PLAIN;
     }
     header
@@ -146,15 +152,15 @@ fn later_filled(image: &[u8], g: Geometry, first: Sector, count: usize, length: 
     requires { ⌜ File g (now image) (first .number .0) count × Lies g first ⌝ }
     ensures { λ r. ⌜ r ≡ laterFilled (length - 245) (bodiesAfter g (now (image .entry)) (first .number .0) (count - 1)) ⌝ }
 {
-    let mut left = saturating_sub(length, 245);
+    let mut left = saturating_sub(length, modules::FIRST_ROOM);
     let mut s = first;
     let mut j: usize = 1;
     while j < count {
         s = next_of(image, g, s);
-        if !filled_at(image, g, s, 2, left) {
+        if !filled_at(image, g, s, modules::LATER_LENGTH, left) {
             return false;
         }
-        left = saturating_sub(left, 253);
+        left = saturating_sub(left, modules::LATER_ROOM);
         j += 1;
     }
     true
@@ -208,10 +214,18 @@ fn copy_later(
     requires { ⌜ Image g (now image) × Lies g s × (at ≤ end) × (end ≤ length (now buffer)) ⌝ }
     ensures { λ r. ⌜ Copied (sector (sectorsOf g (now (image .entry))) (s .number .0)) 3 (now (buffer .entry)) (now (buffer .exit)) at end r ⌝ }
 {
-    if 253 <= end - at {
-        return copy_part(image, g, s, 3, buffer, at, at + 253);
+    if modules::LATER_ROOM <= end - at {
+        return copy_part(
+            image,
+            g,
+            s,
+            modules::LATER_BYTES,
+            buffer,
+            at,
+            at + modules::LATER_ROOM,
+        );
     }
-    copy_part(image, g, s, 3, buffer, at, end)
+    copy_part(image, g, s, modules::LATER_BYTES, buffer, at, end)
 }
 
 // Copies the bytes of the module in a file of `count` sectors from `first` on to the front of the buffer; `size` is how many they are.
@@ -227,7 +241,7 @@ fn copy_module(
         × (size ≡ headerOf (plain (fileBodies g (now image) (first .number .0) count)) .length) × (size ≤ length (now buffer)) × Lies g first ⌝ }
     ensures { λ _. ⌜ now (buffer .exit) ≡ front (bytesIn (plain (fileBodies g (now (image .entry)) (first .number .0) count))) (now (buffer .entry)) ⌝ }
 {
-    let mut at = copy_part(image, g, first, 11, buffer, 0, size);
+    let mut at = copy_part(image, g, first, modules::FIRST_BYTES, buffer, 0, size);
     let mut s = first;
     let mut j: usize = 1;
     while j < count {

@@ -8,7 +8,7 @@ use mathlib.Core.List.{List, [], _∷_}
 use Rattle.format.specs.Refusals.{Try, Refusal, NAME, TAKEN, PROTECTED, refused, ok, _>>=_, _>>_, refuse_if_, _orRefuse_}
 use Rattle.format.specs.Geometry.{Geometry, Disc, Write}
 use Rattle.format.specs.Names.{stored}
-use Rattle.format.specs.Layout.{namePlace, Slot, attributeOf, isProtected, find}
+use Rattle.format.specs.Layout.{nameOffset, Slot, attributeOf, isProtected, find}
 use Rattle.format.specs.Effects.{slotWrite}
 use Rattle.format.specs.Calls.{renameOn}
 use Rattle.answers.specs.Meaning.{Refuses}
@@ -27,7 +27,7 @@ module _ (G : Geometry) (d : Disc) (nine : List ℕ) (s : Slot) where
     unfolding renameTo _>>_ refuse_if_
     to-taken t f = rw (p, f)
 
-    pub to-done : find G d nine ≡ none → renameTo G d nine s ≡ ok (slotWrite d s namePlace nine ∷ [])
+    pub to-done : find G d nine ≡ none → renameTo G d nine s ≡ ok (slotWrite d s nameOffset nine ∷ [])
     unfolding renameTo _>>_ refuse_if_
     to-done f = rw (p, f)
 

@@ -27,8 +27,10 @@ fn rename_entry(
     list: &mut [u8],
 ) -> Filled
     requires { ⌜ Image g (now image) × (n .0 < g .sectors) × (i < slotsEach) × (legalStored (name .bytes) ≡ true) ⌝ }
-    ensures { λ r. ⌜ Lists g (now (image .entry)) (now (image .exit)) (now (list .entry)) (now (list .exit)) r
-        (renameTo (geo g) (sectorsOf g (now (image .entry))) (name .bytes) (slotAt (sectorsOf g (now (image .entry))) (n .0) i)) ⌝ }
+    ensures { λ r. do
+      let d = sectorsOf g (now (image .entry))
+      ⌜ Lists g (now (image .entry)) (now (image .exit)) (now (list .entry)) (now (list .exit)) r
+          (renameTo (geo g) d (name .bytes) (slotAt d (n .0) i)) ⌝ }
 {
     if lookup::is_protected(image, g, n, i) {
         return answers::refused(refusals::PROTECTED);

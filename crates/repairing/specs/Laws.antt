@@ -22,7 +22,7 @@ use Rattle.disc.specs.Meaning.{meaning}
 use Rattle.geometry.specs.Laws.{good, image-full}
 use Rattle.geometry.specs.declared.Geometry as code
 use Rattle.disc.specs.declared.Link.{Link}
-use Rattle.disc.specs.declared.Place.{Place}
+use Rattle.disc.specs.declared.Address.{Address}
 use Rattle.fsck_chains.specs.Marks.{clear}
 use Rattle.fsck.specs.Rules.{marksOf, Stood, clear-is}
 use Rattle.repairing.specs.Threads.{linked, unmarked, linked-system}
@@ -96,7 +96,7 @@ module _ {g : code.Geometry} {image : List ℕ} (i : Image g image) where
       pair-back G bounded (head-pointable unmet-below)
 
   -- the sectors are threaded, and then the system sector is written
-  module _ {m : List ℕ} {used : ℕ} (s : Stood G d used m) {first : Place} {count : ℕ} {threaded : List ℕ} (t : Threaded g m image 0 first count threaded) where
+  module _ {m threaded : List ℕ} {used count : ℕ} {first : Address} (s : Stood G d used m) (t : Threaded g m image 0 first count threaded) where
     pub repaired : (to : Link) → meaning to ≡ pointed G (first .track) (first .sector) → (after : List ℕ)
         → sectorsOf g after ≡ written (systemWrite G (sectorsOf g threaded) (meaning to) count used ∷ []) (sectorsOf g threaded)
         → sectorsOf g after ≡ written (repairWrites G d) d

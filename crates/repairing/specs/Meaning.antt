@@ -9,19 +9,19 @@ use lib.ListN.{length, getD, drop-of-length-le}
 use borrow.Author.Tests.{eq-eqb, ne-eqb}
 use Rattle.lists.specs.Lists.{filter}
 use Rattle.format.specs.Geometry.{Disc, sectorNumber}
-use Rattle.format.specs.Layout.{linkPlace, linkBytes, trackByte, sectorByte}
+use Rattle.format.specs.Layout.{linkOffset, linkBytes, trackByte, sectorByte}
 use Rattle.format.specs.Effects.{headOf, passing}
 use Rattle.geometry.specs.Meaning.{geo, sectorsOf, Valid}
 use Rattle.disc.specs.Meaning.{storedAt}
 use Rattle.geometry.specs.declared.Geometry.{Geometry}
-use Rattle.disc.specs.declared.Place.{Place}
+use Rattle.disc.specs.declared.Address.{Address}
 use Rattle.passing.specs.Meaning.{Stop, Passed}
 use Rattle.passing.specs.Positions.{passing-as-long, next-go, track-inside, stop-number}
 use Rattle.fsck_chains.specs.Marks.{clear}
 use Rattle.repairing.specs.Threads.{linked, unmarked, unmarked-more, unmarked-same}
 
 -- the sectors without a mark, from position k on, are linked; track and sector byte of the first of them, and how many they are
-pub record Threaded (g : Geometry) (m before : List ℕ) (k : ℕ) (first : Place) (count : ℕ) (after : List ℕ) : Type 0 where
+pub record Threaded (g : Geometry) (m before : List ℕ) (k : ℕ) (first : Address) (count : ℕ) (after : List ℕ) : Type 0 where
   pub kept : length after ≡ length before
   pub track-is : first .track ≡ trackByte (geo g) (headOf (unmarked (geo g) m k))
   pub sector-is : first .sector ≡ sectorByte (geo g) (headOf (unmarked (geo g) m k))
@@ -29,18 +29,18 @@ pub record Threaded (g : Geometry) (m before : List ℕ) (k : ℕ) (first : Plac
   pub sectors-are : sectorsOf g after ≡ linked (geo g) (unmarked (geo g) m k) (sectorsOf g before)
 
 -- a chain that begins at position j is extended to position k: where the sectors from j on were threaded, those from k on are
-pub record Extends (g : Geometry) (m : List ℕ) (j : ℕ) (first₀ : Place) (count₀ : ℕ) (x : List ℕ)
-    (k : ℕ) (first : Place) (count : ℕ) (y : List ℕ) : Type 0 where
+pub record Extends (g : Geometry) (m : List ℕ) (j : ℕ) (first₀ : Address) (count₀ : ℕ) (x : List ℕ)
+    (k : ℕ) (first : Address) (count : ℕ) (y : List ℕ) : Type 0 where
   pub few : count + k ≤ g .sectors
   pub threads : (before : List ℕ) → Threaded g m before j first₀ count₀ x → Threaded g m before k first count y
 
 -- the same position, said otherwise
-pub thread-as : {g : Geometry} {m before after : List ℕ} {first : Place} {count : ℕ} {j k : ℕ} → j ≡ k → Threaded g m before j first count after
+pub thread-as : {g : Geometry} {m before after : List ℕ} {first : Address} {count : ℕ} {j k : ℕ} → j ≡ k → Threaded g m before j first count after
     → Threaded g m before k first count after
 thread-as {g} {m} {before} {after} {first} {count} e t = subst (λ (n : ℕ). Threaded g m before n first count after) e t
 
 -- nothing is linked
-pub thread-start : {g : Geometry} → Valid g → (m image : List ℕ) (k : ℕ) → k ≡ g .sectors → (first : Place) → first .track ≡ 0 → first .sector ≡ 0
+pub thread-start : {g : Geometry} → Valid g → (m image : List ℕ) (k : ℕ) → k ≡ g .sectors → (first : Address) → first .track ≡ 0 → first .sector ≡ 0
     → Threaded g m image k first 0 image
 unfolding linked unmarked
 thread-start {g} v m image k e first t s =
@@ -59,7 +59,7 @@ thread-start {g} v m image k e first t s =
 
 -- ---- the sector at position k, before a chain that begins at the next
 
-module _ {g : Geometry} (v : Valid g) {m before : List ℕ} (j k : ℕ) (next : j ≡ k + 1) (on : k < g .sectors) {first : Place} {count : ℕ} {after : List ℕ}
+module _ {g : Geometry} (v : Valid g) {m before : List ℕ} (j k : ℕ) (next : j ≡ k + 1) (on : k < g .sectors) {first : Address} {count : ℕ} {after : List ℕ}
     (t : Threaded g m before j first count after) where
   abbrev n : ℕ
   n = getD (passing (geo g)) k 0
@@ -80,8 +80,8 @@ module _ {g : Geometry} (v : Valid g) {m before : List ℕ} (j k : ℕ) (next : 
       }
 
   -- has none, and is linked to the first
-  thread-more : {r : Place} {new : List ℕ} → getD m n 0 ≡ 0 → Passed g k r → length new ≡ length after
-      → sectorsOf g new ≡ storedAt (sectorsOf g after) n linkPlace (first .track ∷ first .sector ∷ []) → Threaded g m before k r (count + 1) new
+  thread-more : {r : Address} {new : List ℕ} → getD m n 0 ≡ 0 → Passed g k r → length new ≡ length after
+      → sectorsOf g new ≡ storedAt (sectorsOf g after) n linkOffset (first .track ∷ first .sector ∷ []) → Threaded g m before k r (count + 1) new
   unfolding linked
   thread-more {r} {new} h p same e =
       let ns : List ℕ = unmarked (geo g) m j in
@@ -93,8 +93,8 @@ module _ {g : Geometry} (v : Valid g) {m before : List ℕ} (j k : ℕ) (next : 
         sector-is = p .sector-is ∙ ap (sectorByte (geo g)) here ∙ ap (λ (ns : List ℕ). sectorByte (geo g) (headOf ns)) (sym more);
         counted = omega (arith, t .counted, ap length more);
         sectors-are = e
-            ∙ ap₂ (λ (a b : ℕ). storedAt (sectorsOf g after) n linkPlace (a ∷ b ∷ [])) (t .track-is) (t .sector-is)
-            ∙ ap (λ (d : Disc). storedAt d n linkPlace (linkBytes (geo g) (headOf ns))) (t .sectors-are)
+            ∙ ap₂ (λ (a b : ℕ). storedAt (sectorsOf g after) n linkOffset (a ∷ b ∷ [])) (t .track-is) (t .sector-is)
+            ∙ ap (λ (d : Disc). storedAt d n linkOffset (linkBytes (geo g) (headOf ns))) (t .sectors-are)
             ∙ ap (λ (xs : List ℕ). linked (geo g) xs (sectorsOf g before)) (sym more);
       }
 
@@ -102,7 +102,7 @@ module _ {g : Geometry} (v : Valid g) {m before : List ℕ} (j k : ℕ) (next : 
 
 module _ {g : Geometry} (v : Valid g) (track i : ℕ) (on : track < g .tracks) (h : i < geo g .perTrack) (stop : ℕ) (is : Stop g (getD (geo g .order) i 0) stop)
     (n : ℕ) (numbered : n ≡ sectorNumber (geo g) track (stop % 256))
-    {m x : List ℕ} {from : ℕ} {first₀ : Place} {count₀ : ℕ} (j : ℕ) (next : j ≡ geo g .perTrack * track + i + 1) {first : Place} {count : ℕ} {y : List ℕ}
+    {m x : List ℕ} {from : ℕ} {first₀ : Address} {count₀ : ℕ} (j : ℕ) (next : j ≡ geo g .perTrack * track + i + 1) {first : Address} {count : ℕ} {y : List ℕ}
     (t : Extends g m from first₀ count₀ x j first count y) where
   abbrev position : ℕ
   position = geo g .perTrack * track + i
@@ -120,10 +120,11 @@ module _ {g : Geometry} (v : Valid g) (track i : ℕ) (on : track < g .tracks) (
         threads = λ before b. thread-skip v j position next (track-inside v track i on h) (t .threads before b) (λ e. marked (sym mark-is ∙ e));
       }
 
-  pub extend-more : {r : Place} {new : List ℕ} → getD m n 0 ≡ 0 → Passed g position r → length new ≡ length y
-      → sectorsOf g new ≡ storedAt (sectorsOf g y) n linkPlace (first .track ∷ first .sector ∷ []) → Extends g m from first₀ count₀ x position r (count + 1) new
+  pub extend-more : {r : Address} {new : List ℕ} → getD m n 0 ≡ 0 → Passed g position r → length new ≡ length y
+      → sectorsOf g new ≡ storedAt (sectorsOf g y) n linkOffset (first .track ∷ first .sector ∷ [])
+      → Extends g m from first₀ count₀ x position r (count + 1) new
   extend-more {r} {new} clear p same e =
-      let stored = e ∙ ap (λ (n : ℕ). storedAt (sectorsOf g y) n linkPlace (first .track ∷ first .sector ∷ [])) sector-is in
+      let stored = e ∙ ap (λ (n : ℕ). storedAt (sectorsOf g y) n linkOffset (first .track ∷ first .sector ∷ [])) sector-is in
       record {
         few = omega (arith, t .few);
         threads = λ before b. thread-more v j position next (track-inside v track i on h) (t .threads before b) (mark-is ∙ clear) p same stored;
@@ -131,10 +132,10 @@ module _ {g : Geometry} (v : Valid g) (track i : ℕ) (on : track < g .tracks) (
 
 -- ---- the ends of that loop
 
-pub extend-none : {g : Geometry} {m x : List ℕ} {first : Place} {count : ℕ} (j k : ℕ) → j ≡ k → count + j ≤ g .sectors
+pub extend-none : {g : Geometry} {m x : List ℕ} {first : Address} {count : ℕ} (j k : ℕ) → j ≡ k → count + j ≤ g .sectors
     → Extends g m j first count x k first count x
 extend-none j k e few = record { few = omega arith; threads = λ before t. thread-as e t }
 
-pub extend-end : {g : Geometry} {m x y : List ℕ} {from j : ℕ} {first₀ first : Place} {count₀ count : ℕ} (k : ℕ) → j ≡ k
+pub extend-end : {g : Geometry} {m x y : List ℕ} {from j : ℕ} {first₀ first : Address} {count₀ count : ℕ} (k : ℕ) → j ≡ k
     → Extends g m from first₀ count₀ x j first count y → Extends g m from first₀ count₀ x k first count y
 extend-end k e t = record { few = omega (arith, t .few); threads = λ before b. thread-as e (t .threads before b) }

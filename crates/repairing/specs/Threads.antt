@@ -14,7 +14,7 @@ use native.Mathlib.Numerals.{add-one}
 use Rattle.lists.specs.Lists.{filter, times}
 use Rattle.lists.specs.ListLaws.{All, head-of, tail-of, times-here, times-past, filter-yes, filter-no}
 use Rattle.format.specs.Geometry.{Geometry, Disc, sector, written}
-use Rattle.format.specs.Layout.{linkPlace, system, linkBytes}
+use Rattle.format.specs.Layout.{linkOffset, system, linkBytes}
 use Rattle.format.specs.Effects.{body, headOf, passing, chained, systemWrite}
 use Rattle.disc.specs.Meaning.{storedAt}
 use Rattle.soundness.specs.ChainWrites.{chained-other}
@@ -25,7 +25,7 @@ module _ (G : Geometry) where
   -- the disc with the sectors linked in order, the last one first
   unfoldable pub linked : List ℕ → Disc → Disc
   linked [] d = d
-  linked (n ∷ ns) d = storedAt (linked ns d) n linkPlace (linkBytes G (headOf ns))
+  linked (n ∷ ns) d = storedAt (linked ns d) n linkOffset (linkBytes G (headOf ns))
 
   -- the sectors without a mark, from position k of the passing order on
   unfoldable pub unmarked : List ℕ → ℕ → List ℕ
@@ -69,8 +69,8 @@ module _ (G : Geometry) where
       let apart : times n ns ≡ 0 = omega (arith, once n, times-here n n ns refl) in
       let fewer : (m : ℕ) → times m ns ≤ 1 =
       λ m. elim (ℕ-discrete m n) [ yes e ↦ omega (arith, times-here m n ns e, once m) | no e ↦ omega (arith, times-past m n ns e, once m) ] in
-      ap (λ (x : Disc). storedAt x n linkPlace link) (linked-chained ns d (tail-of long) fewer)
-      ∙ ap (λ (s : List ℕ). set after n (sets s linkPlace link)) (chained-other G ns bs d n apart)
+      ap (λ (x : Disc). storedAt x n linkOffset link) (linked-chained ns d (tail-of long) fewer)
+      ∙ ap (λ (s : List ℕ). set after n (sets s linkOffset link)) (chained-other G ns bs d n apart)
       ∙ ap (set after n) (sets-eq link (sector d n) 0 (head-of long))
       ∙ sym (chained-apart ns bs d n (link ++ body (sector d n)) apart)
 

@@ -1,5 +1,5 @@
 // The repair of a disc whose rules 1 to 5 hold: every sector that neither the directory nor a file meets goes into a new free chain.
-use disc::Place;
+use disc::Address;
 use fsck::Standing;
 use geometry::Geometry;
 use geometry::Sized;
@@ -14,7 +14,7 @@ ghost use Rattle.repairing.specs.Meaning.{Threaded, Extends};
 
 // A chain so far: where it begins, as track and sector byte (zeros: nowhere), and how many sectors it has.
 struct Chain {
-    first: Place,
+    first: Address,
     count: usize,
 }
 
@@ -44,7 +44,7 @@ fn thread_track(
         }
         let link = [first.track, first.sector];
         disc::put_in(image, g, sector, 0, &link);
-        first = Place {
+        first = Address {
             track: track as u8,
             sector: passing::sector_of_stop(stop),
         };

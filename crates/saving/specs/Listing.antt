@@ -25,7 +25,7 @@ use Rattle.geometry.specs.declared.Geometry.{Geometry}
 use Rattle.disc.specs.declared.Link.{Link}
 use Rattle.soundness.specs.Pointers.{Bounded}
 use Rattle.soundness.specs.ListedWrites.{fileTaken, allTaken, file-long, save-on-disc, save-once}
-use Rattle.soundness.specs.SavedList.{saved-chain, places-open, places-grown, saved-many}
+use Rattle.soundness.specs.SavedList.{saved-chain, targets-open, targets-grown, saved-many}
 use Rattle.answers.specs.declared.Filled.{Filled}
 use Rattle.answers.specs.Meaning.{Lists}
 use Rattle.writes.specs.Meaning.{frontOf, Walks, Copied}
@@ -39,7 +39,7 @@ pub few-sectors : {g : Geometry} {image : List ℕ} {m : Module} → Ready g ima
 few-sectors {m = m} y =
     elim (decLe (sectorsFor (length (m .bytes))) 300) [
       | yes h ↦ h
-      | no h ↦ let l = lt-of-not-le h in absurd (omega (arith, sectors-fit (length (m .bytes)) .no-more (omega arith), y .allowed .within))
+      | no h ↦ let l = lt-of-not-le h in absurd (omega (arith, sectors-fit (length (m .bytes)) .no-more (omega arith), y .is-module .within))
     ]
 
 module _ {g : Geometry} {image : List ℕ} (nine : List ℕ) (m : Module) (y : Ready g image m) where
@@ -112,7 +112,7 @@ module _ {g : Geometry} {image : List ℕ} (nine : List ℕ) (m : Module) (y : R
       unfolding file
       open-listed s o room c =
           listed-done lent (y .image-of) _ whole once (omega (arith, many-open s o)) is
-          (ap (λ (ns : List ℕ). 0 ∷ ns ++ s .home ∷ []) chain-is ∙ sym (places-open (geo g) (sectorsOf g image) nine m (y .enough) s o)) c
+          (ap (λ (ns : List ℕ). 0 ∷ ns ++ s .home ∷ []) chain-is ∙ sym (targets-open (geo g) (sectorsOf g image) nine m (y .enough) s o)) c
 
       pub grown-listed : openSlot (geo g) (sectorsOf g image) ≡ none → {new last : ℕ} → new ≡ lastOr 0 (allTaken (geo g) (sectorsOf g image) m)
           → last ≡ lastOr 0 (directory (geo g) (sectorsOf g image)) → listSize (count + 3) ≤ length lent
@@ -121,4 +121,5 @@ module _ {g : Geometry} {image : List ℕ} (nine : List ℕ) (m : Module) (y : R
       unfolding file
       grown-listed o new-is last-is room c =
           listed-done lent (y .image-of) _ whole once (omega (arith, many-grown o)) is
-          (ap₂ (λ (ns es : List ℕ). 0 ∷ ns ++ es) chain-is (λ i. new-is i ∷ last-is i ∷ []) ∙ sym (places-grown (geo g) (sectorsOf g image) nine m (y .enough) o)) c
+          (ap₂ (λ (ns es : List ℕ). 0 ∷ ns ++ es) chain-is (λ i. new-is i ∷ last-is i ∷ [])
+          ∙ sym (targets-grown (geo g) (sectorsOf g image) nine m (y .enough) o)) c

@@ -9,7 +9,7 @@ use Rattle.format.specs.Geometry as format
 use Rattle.format.specs.Geometry.{Disc, sector, written}
 use Rattle.format.specs.Layout.{linkOf, directory, free}
 use Rattle.format.specs.Modules.{Module, bodies}
-use Rattle.format.specs.ModuleLaws.{Allowed}
+use Rattle.format.specs.ModuleLaws.{IsModule}
 use Rattle.format.specs.Effects.{chained, entryBytes, needed, saveWrites}
 use Rattle.soundness.specs.WriteFacts.{Savable}
 use Rattle.soundness.specs.ListedWrites.{fileTaken, allTaken}
@@ -17,14 +17,14 @@ use Rattle.geometry.specs.Meaning.{geo, sectorsOf, Image}
 use Rattle.disc.specs.Meaning.{meaning, Inside}
 use Rattle.geometry.specs.declared.Geometry.{Geometry}
 use Rattle.saving_sectors.specs.declared.Taken.{Taken}
-use Rattle.saving_sectors.specs.declared.Filed.{Filed}
+use Rattle.saving_sectors.specs.declared.NewFile.{NewFile}
 use Rattle.saving_sectors.specs.declared.Grown.{Grown}
 
--- the disc is as a sound one is, and has the sectors that a save of the allowed module m takes
+-- the disc is as a sound one is, and has the sectors that a save of the module m takes
 pub record Ready (g : Geometry) (image : List ℕ) (m : Module) : Type 0 where
   pub image-of : Image g image
   pub savable : Savable (geo g) (sectorsOf g image)
-  pub allowed : Allowed m
+  pub is-module : IsModule m
   pub enough : needed (geo g) (sectorsOf g image) (length (m .bytes)) ≤ length (free (geo g) (sectorsOf g image))
 
 -- the disc with the module in the sectors that it takes, the first ones of the free chain
@@ -36,7 +36,7 @@ abbrev pub nextFree : format.Geometry → Disc → Module → format.Next
 nextFree G d m = linkOf G (sector d (lastOr 0 (fileTaken G d m)))
 
 -- `after` is the image `before` with the module in it
-pub record Placed (g : Geometry) (before after : List ℕ) (m : Module) (t : Taken) : Type 0 where
+pub record ModulePut (g : Geometry) (before after : List ℕ) (m : Module) (t : Taken) : Type 0 where
   pub sectors-are : sectorsOf g after ≡ withModule (geo g) (sectorsOf g before) m
   pub last-is : t .last .0 ≡ lastOr 0 (fileTaken (geo g) (sectorsOf g before) m)
   pub last-inside : t .last .0 < g .sectors
@@ -44,7 +44,7 @@ pub record Placed (g : Geometry) (before after : List ℕ) (m : Module) (t : Tak
   pub next-inside : Inside g (t .next)
 
 -- and f has its entry
-pub record FiledAs (g : Geometry) (before after nine : List ℕ) (m : Module) (f : Filed) : Type 0 where
+pub record NewFileAs (g : Geometry) (before after nine : List ℕ) (m : Module) (f : NewFile) : Type 0 where
   pub sectors-are : sectorsOf g after ≡ withModule (geo g) (sectorsOf g before) m
   pub entry-is : f .entry ≡ entryBytes (geo g) nine (fileTaken (geo g) (sectorsOf g before) m)
   pub next-is : meaning (f .next) ≡ nextFree (geo g) (sectorsOf g before) m

@@ -14,7 +14,7 @@ use Rattle.lists.specs.Lists.{isSome, byte, times, lastOr}
 use Rattle.lists.specs.ListLaws.{zero-or, times-none, times-join, times-split, times-here, times-past}
 use Rattle.format.specs.Geometry.{Geometry, Next, go, Disc, sector, Write, written}
 use Rattle.format.specs.GeometryLaws.{sector-other, written-other}
-use Rattle.format.specs.Layout.{linkPlace, inUsePlace, freeCount, usedCount, Slot, linkOf, linkBytes, directory, freePointer, free, openSlot}
+use Rattle.format.specs.Layout.{linkOffset, inUseOffset, freeCount, usedCount, Slot, linkOf, linkBytes, directory, freePointer, free, openSlot}
 use Rattle.format.specs.Modules.{Module, sectorsFor, bodies}
 use Rattle.format.specs.ModuleLaws.{sectors-fit, bodies-many}
 use Rattle.format.specs.Effects.{withSlot, withLink, entryWrite, chained, systemWrite, entryBytes, growth, needed, entryWrites, saveWrites}
@@ -26,8 +26,8 @@ use Rattle.disc.specs.Meaning.{meaning, storedAt}
 use Rattle.geometry.specs.declared.Geometry as code
 use Rattle.system.specs.Laws.{system-from}
 use Rattle.soundness.specs.ListedWrites.{fileTaken, allTaken, file-long}
-use Rattle.saving_sectors.specs.Meaning.{Ready, FiledAs, withModule, nextFree}
-use Rattle.saving_sectors.specs.declared.Filed.{Filed}
+use Rattle.saving_sectors.specs.Meaning.{Ready, NewFileAs, withModule, nextFree}
+use Rattle.saving_sectors.specs.declared.NewFile.{NewFile}
 use Rattle.saving_sectors.specs.Taking.{last-taken, Linked, free-linked, free-next}
 
 -- ---- a sector that is written last
@@ -126,14 +126,14 @@ module _ (G : Geometry) (d : Disc) (nine : List ℕ) (m : Module) (S : Savable G
   -- the entry goes into the first free slot
   pub saved-in-slot : (s : Slot) → openSlot G d ≡ some s → (entry : List ℕ) → entry ≡ entryBytes G nine (fileTaken G d m) → (d₁ d₂ d₃ : Disc)
       → d₁ ≡ withModule G d m
-      → d₂ ≡ set d₁ (s .home) (withSlot (sector d₁ (s .home)) (s .index) (byte (sector d (s .home)) inUsePlace + 1) entry)
+      → d₂ ≡ set d₁ (s .home) (withSlot (sector d₁ (s .home)) (s .index) (byte (sector d (s .home)) inUseOffset + 1) entry)
       → d₃ ≡ written (systemWrite G d₂ (nextFree G d m) (freeCount d - k) (usedCount d + k) ∷ []) d₂
       → d₃ ≡ written (saveWrites G d nine m) d
   unfolding entryWrites
   saved-in-slot s first-free entry entry-is d₁ d₂ d₃ e₁ e₂ e₃ =
       let file : List ℕ = fileTaken G d m in
       let home : ℕ = s .home in
-      let in-use : ℕ = byte (sector d home) inUsePlace + 1 in
+      let in-use : ℕ = byte (sector d home) inUseOffset + 1 in
       let same : k ≡ k + growth G d = omega (arith, growth-some G d s first-free) in
       let long : length file ≡ k = file-long G d nine m enough in
       let in-directory : 0 < times home (directory G d) = S .open-home s first-free in
@@ -178,7 +178,7 @@ module _ (G : Geometry) (d : Disc) (nine : List ℕ) (m : Module) (S : Savable G
 
       pub saved-grown : (last : ℕ) → last ≡ lastOr 0 (directory G d) → (entry : List ℕ) → entry ≡ entryBytes G nine (fileTaken G d m) → (d₁ d₂ d₃ : Disc)
           → d₁ ≡ withModule G d m
-          → d₂ ≡ storedAt (set d₁ new (withSlot (replicate 256 0) 0 1 entry)) last linkPlace (linkBytes G (go new))
+          → d₂ ≡ storedAt (set d₁ new (withSlot (replicate 256 0) 0 1 entry)) last linkOffset (linkBytes G (go new))
           → d₃ ≡ written (systemWrite G d₂ (linkOf G (sector d₁ new)) (freeCount d - (k + 1)) (usedCount d + k) ∷ []) d₂
           → d₃ ≡ written (saveWrites G d nine m) d
       unfolding entryWrites
@@ -207,7 +207,7 @@ module _ (G : Geometry) (d : Disc) (nine : List ℕ) (m : Module) (S : Savable G
           (rw (← last-one, ← new-kept, ← e₁, long) e₃)
 
 -- where no slot is free, the link found after the module leads to that sector
-pub filed-leads : {g : code.Geometry} {image after nine : List ℕ} {m : Module} {f : Filed} → Ready g image m → openSlot (geo g) (sectorsOf g image) ≡ none
-    → FiledAs g image after nine m f → meaning (f .next) ≡ go (getD (free (geo g) (sectorsOf g image)) (sectorsFor (length (m .bytes))) 0)
-filed-leads {g} {image} {after} {nine} {m} r full f =
+pub new-file-leads : {g : code.Geometry} {image after nine : List ℕ} {m : Module} {f : NewFile} → Ready g image m → openSlot (geo g) (sectorsOf g image) ≡ none
+    → NewFileAs g image after nine m f → meaning (f .next) ≡ go (getD (free (geo g) (sectorsOf g image)) (sectorsFor (length (m .bytes))) 0)
+new-file-leads {g} {image} {after} {nine} {m} r full f =
     f .next-is ∙ next-grown (geo g) (sectorsOf g image) nine m (r .savable) (r .enough) full

@@ -14,13 +14,13 @@ ghost use lib.Dec.{ltb};
 ghost use lib.ListN.{length, replicate, set};
 ghost use Rattle.lists.specs.Lists.{word};
 ghost use Rattle.format.specs.Geometry.{stop, go, written};
-ghost use Rattle.format.specs.Layout.{slotsEach, linkPlace, attribute, slotAt, linkBytes, pairBytes, freePointer, openSlot};
+ghost use Rattle.format.specs.Layout.{slotsEach, linkOffset, attribute, slotAt, linkBytes, pairBytes, freePointer, openSlot};
 ghost use Rattle.format.specs.Modules.{sectorsFor};
 ghost use Rattle.format.specs.Effects.{withSlot, saveWrites};
 ghost use Rattle.geometry.specs.Meaning.{geo, sectorsOf, Valid, Image};
 ghost use Rattle.disc.specs.Meaning.{meaning, storedAt, Inside};
 ghost use Rattle.modules.specs.Meaning.{moduleOf};
-ghost use Rattle.saving_sectors.specs.Meaning.{Ready, Placed, FiledAs, GrownBy};
+ghost use Rattle.saving_sectors.specs.Meaning.{Ready, ModulePut, NewFileAs, GrownBy};
 
 // The link of sector j of a file of `count` sectors.
 fn link_in_file(next: Link, j: usize, count: usize) -> Link
@@ -50,7 +50,7 @@ fn put_module(
 ) -> Taken
     requires { ⌜ Ready g (now image) (moduleOf m (now sheet)) × (count ≡ sectorsFor (length (now sheet)))
         × (meaning pointer ≡ freePointer (geo g) (sectorsOf g (now image))) ⌝ }
-    ensures { λ r. ⌜ Placed g (now (image .entry)) (now (image .exit)) (moduleOf m (now (sheet .entry))) r ⌝ }
+    ensures { λ r. ⌜ ModulePut g (now (image .entry)) (now (image .exit)) (moduleOf m (now (sheet .entry))) r ⌝ }
 {
     let mut at = pointer;
     let mut last = SectorNo(0);
@@ -75,8 +75,8 @@ fn entry_bytes(g: Geometry, name: Name, count: usize, first: Link, last: SectorN
     ensures { λ r. ⌜ r ≡ name .bytes ++ word count ++ pairBytes (geo g) (meaning first) ++ pairBytes (geo g) (go (last .0)) ++ attribute false ∷ [] ⌝ }
 {
     let nine = name.bytes;
-    let from = disc::place_of(g, first);
-    let to = disc::place_of(g, Link::To(last));
+    let from = disc::address_of(g, first);
+    let to = disc::address_of(g, Link::To(last));
     [
         nine[0],
         nine[1],
@@ -98,7 +98,7 @@ fn entry_bytes(g: Geometry, name: Name, count: usize, first: Link, last: SectorN
 }
 
 // The entry of a module that was written, and the link found in its last sector.
-pub struct Filed {
+pub struct NewFile {
     pub entry: [u8; 16],
     pub next: Link,
 }
@@ -112,16 +112,16 @@ fn put_file(
     m: Numbers,
     sheet: &[u8],
     count: usize,
-) -> Filed
+) -> NewFile
     requires { ⌜ Ready g (now image) (moduleOf m (now sheet)) × (count ≡ sectorsFor (length (now sheet)))
         × (meaning pointer ≡ freePointer (geo g) (sectorsOf g (now image))) ⌝ }
-    ensures { λ r. ⌜ FiledAs g (now (image .entry)) (now (image .exit)) (name .bytes) (moduleOf m (now (sheet .entry))) r ⌝ }
+    ensures { λ r. ⌜ NewFileAs g (now (image .entry)) (now (image .exit)) (name .bytes) (moduleOf m (now (sheet .entry))) r ⌝ }
 {
     let taken = put_module(image, g, pointer, m, sheet, count);
     let last = taken.last;
     let next = taken.next;
     let entry = entry_bytes(g, name, count, pointer, last);
-    Filed { entry, next }
+    NewFile { entry, next }
 }
 
 // Saves into slot i of directory sector n, which is free.
@@ -159,7 +159,7 @@ fn grow(image: &mut [u8], g: Geometry, last: SectorNo, new: SectorNo, entry: &[u
     requires { ⌜ Image g (now image) × (last .0 < g .sectors) × (new .0 < g .sectors) ⌝ }
     ensures { λ _. do
       let d = set (sectorsOf g (now (image .entry))) (new .0) (withSlot (replicate 256 0) 0 1 (now (entry .entry)))
-      ⌜ sectorsOf g (now (image .exit)) ≡ storedAt d (last .0) linkPlace (linkBytes (geo g) (go (new .0))) ⌝ }
+      ⌜ sectorsOf g (now (image .exit)) ≡ storedAt d (last .0) linkOffset (linkBytes (geo g) (go (new .0))) ⌝ }
 {
     let in_use = [1u8];
     modules::put_body(image, g, new, Link::End, &in_use, entry);

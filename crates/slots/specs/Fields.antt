@@ -1,4 +1,4 @@
--- The fields of an entry, by their places in its directory sector.
+-- The fields of an entry, by their offsets in its directory sector.
 -- Assumes nothing.
 use mathlib.Core.Path.{_≡_, sym, ap, ap₂, _∙_}
 use Prim.Native.Nat.{ℕ, _+_, _*_, _<_}
@@ -9,7 +9,7 @@ use Rattle.lists.specs.Lists.{byte, wordAt}
 use Rattle.format.specs.Geometry.{Geometry, pointed, Disc, sector}
 use Rattle.format.specs.Layout.{slotStart, slotAt, pairAt}
 
--- slot i of sector n starts at place a
+-- slot i of sector n starts at offset a
 module _ (d : Disc) (n i a : ℕ) (e : a ≡ slotStart i) where
   pub slot-byte : (j : ℕ) → j < 16 → byte (slotAt d n i .bytes) j ≡ byte (sector d n) (a + j)
   unfolding slotAt

@@ -6,15 +6,11 @@ use native.Mathlib.Omega.{arith}
 use mathlib.Core.Bool.{Bool, true, false, not}
 use mathlib.Core.List.{List, [], _∷_, _++_, map}
 use Rattle.lists.specs.Lists.{range, consIf}
-use Rattle.lists.specs.ListLaws.{filter-join}
 use Rattle.format.specs.Geometry.{Disc}
 use Rattle.format.specs.Layout.{slotsEach, Slot, freeSlot, inUse, slotAt, slotsAt}
+use Rattle.format.specs.SlotLaws.{inUse-join}
 
 -- ---- slots in use
-
-pub use-join : (ss ts : List Slot) → inUse (ss ++ ts) ≡ inUse ss ++ inUse ts
-unfolding inUse
-use-join ss ts = filter-join (λ s. not (freeSlot s)) ss ts
 
 -- one slot
 module _ (s : Slot) where
@@ -51,7 +47,7 @@ module _ (d : Disc) (n : ℕ) where
 
 module _ (d : Disc) (n i : ℕ) where
   pub use-next : i < slotsEach → inUse (slotsFrom d n i) ≡ inUse (slotAt d n i ∷ []) ++ inUse (slotsFrom d n (i + 1))
-  use-next h = ap inUse (slots-next d n i h) ∙ use-join (slotAt d n i ∷ []) (slotsFrom d n (i + 1))
+  use-next h = ap inUse (slots-next d n i h) ∙ inUse-join (slotAt d n i ∷ []) (slotsFrom d n (i + 1))
 
   pub use-next-free : i < slotsEach → freeSlot (slotAt d n i) ≡ true → inUse (slotsFrom d n i) ≡ inUse (slotsFrom d n (i + 1))
   use-next-free h e = use-next h ∙ ap (λ (ss : List Slot). ss ++ inUse (slotsFrom d n (i + 1))) (use-free (slotAt d n i) e)

@@ -10,7 +10,7 @@ ghost use Prim.Native.Nat.{_+_, _≤_, _<_};
 ghost use lib.ListN.{length, take, drop, set};
 ghost use Rattle.lists.specs.Lists.{byte, same};
 ghost use Rattle.format.specs.Geometry.{sector};
-ghost use Rattle.format.specs.Layout.{slotsEach, slotStart, inUsePlace, slotAt, freeSlot, nameOf, lengthOf, firstOf, lastOf, attributeOf};
+ghost use Rattle.format.specs.Layout.{slotsEach, slotStart, inUseOffset, slotAt, freeSlot, nameOf, lengthOf, firstOf, lastOf, attributeOf};
 ghost use Rattle.format.specs.Layout.{isAttribute, isProtected, protectedAs};
 ghost use Rattle.format.specs.Effects.{withSlot};
 ghost use Rattle.geometry.specs.Meaning.{geo, sectorsOf, Image};
@@ -88,8 +88,7 @@ pub fn slot_free(image: &[u8], g: Geometry, n: SectorNo, i: usize) -> bool
     requires { ⌜ Image g (now image) × (n .0 < g .sectors) × (i < slotsEach) ⌝ }
     ensures { λ r. ⌜ r ≡ freeSlot (slotAt (sectorsOf g (now (image .entry))) (n .0) i) ⌝ }
 {
-    let zeros = [0u8; 16];
-    same_at(image, g, n, slot_start(i), &zeros)
+    bytes::are_zero(image, geometry::start_of(g, n) + slot_start(i), 16)
 }
 
 // Whether slot i has this name.
@@ -118,7 +117,7 @@ pub fn same_names(image: &[u8], g: Geometry, n: SectorNo, i: usize, m: SectorNo,
 // How many entries of directory sector n are in use, as it says.
 pub fn in_use_of(image: &[u8], g: Geometry, n: SectorNo) -> u8
     requires { ⌜ Image g (now image) × (n .0 < g .sectors) ⌝ }
-    ensures { λ r. ⌜ r ≡ byte (sector (sectorsOf g (now (image .entry))) (n .0)) inUsePlace ⌝ }
+    ensures { λ r. ⌜ r ≡ byte (sector (sectorsOf g (now (image .entry))) (n .0)) inUseOffset ⌝ }
 {
     disc::byte_of(image, g, n, IN_USE)
 }

@@ -12,7 +12,7 @@ use Rattle.format.specs.Geometry.{Geometry, sectors, trackOf, sectorOf, Disc, s
 use Rattle.format.specs.GeometryLaws.{sector-same, written-other, Full, sector-full}
 use Rattle.format.specs.Writes.{recordOf, writeList}
 use Rattle.format.specs.WriteLaws.{WholeOn}
-use Rattle.soundness.specs.ListedWrites.{places}
+use Rattle.soundness.specs.ListedWrites.{targets}
 
 -- a sector as it stands
 abbrev pub standing : Disc → ℕ → Write
@@ -47,23 +47,23 @@ module _ (G : Geometry) (d : Disc) where
 -- ---- writes of distinct sectors
 
 -- each sector stands as it was written
-pub still : {N : ℕ} {ws : List Write} → All (λ w. w .at < N) ws → (d : Disc) → length d ≡ N → ((n : ℕ) → times n (places ws) ≤ 1)
+pub still : {N : ℕ} {ws : List Write} → All (λ w. w .at < N) ws → (d : Disc) → length d ≡ N → ((n : ℕ) → times n (targets ws) ≤ 1)
     → All (λ w. sector (written ws d) (w .at) ≡ w .bytes) ws
 still done d e once = done
 still (_also_ {x = w} {xs = ws} h hs) d e once =
     let d₁ : Disc = set d (w .at) (w .bytes) in
-    (written-other ws d₁ (w .at) (omega (arith, once (w .at), times-here (w .at) (w .at) (places ws) refl))
+    (written-other ws d₁ (w .at) (omega (arith, once (w .at), times-here (w .at) (w .at) (targets ws) refl))
     ∙ sector-same d (w .at) (w .bytes) (omega arith))
     also still hs d₁ (length-set d (w .at) (w .bytes) ∙ e) (λ n. elim (ℕ-discrete n (w .at)) [
-      | yes q ↦ omega (arith, once n, times-here n (w .at) (places ws) q)
-      | no q ↦ omega (arith, once n, times-past n (w .at) (places ws) q)
+      | yes q ↦ omega (arith, once n, times-here n (w .at) (targets ws) q)
+      | no q ↦ omega (arith, once n, times-past n (w .at) (targets ws) q)
     ])
 
-copy : (G : Geometry) (d : Disc) {ws : List Write} → All (λ w. sector d (w .at) ≡ w .bytes) ws → copied G d (places ws) ≡ writeList G ws
+copy : (G : Geometry) (d : Disc) {ws : List Write} → All (λ w. sector d (w .at) ≡ w .bytes) ws → copied G d (targets ws) ≡ writeList G ws
 unfolding recordsAt writeList recordOf
 copy G d done = refl
 copy G d (_also_ {x = w} {xs = ws} h hs) =
-    append-assoc (recordOf G (standing d (w .at))) (recordsAt G d (places ws)) (0 ∷ [])
+    append-assoc (recordOf G (standing d (w .at))) (recordsAt G d (targets ws)) (0 ∷ [])
     ∙ ap₂ (λ (b r : List ℕ). (3 ∷ trackOf G (w .at) ∷ sectorOf G (w .at) ∷ b) ++ r) h (copy G d hs)
 
 pub copied-out : (G : Geometry) (d : Disc) → Full G d → (ws : List Write) → All (WholeOn G) ws → ((n : ℕ) → times n (map (λ w. w .at) ws) ≤ 1)

@@ -11,11 +11,13 @@ use Rattle.lists.specs.Lists.{joined, times, wordAt}
 use Rattle.lists.specs.ListLaws.{zero-or, All, done, _also_, all-join, times-join, times-here, times-past, all-at, same-true}
 use Rattle.format.specs.Geometry.{Geometry, sectors, Next, go, Disc}
 use Rattle.format.specs.GeometryLaws.{OnDisc, pointed-on}
-use Rattle.format.specs.Layout.{lengthPlace, Slot, emptySlot, freeSlot, inUse, slotsOf, directoryPointer, directory, slots, entries, firstOf, fileChain, fileSectors}
+use Rattle.format.specs.Layout.{lengthOffset, Slot, emptySlot, freeSlot, inUse, slotsOf, directoryPointer}
+use Rattle.format.specs.Layout.{directory, slots, entries, firstOf, fileChain, fileSectors}
 use Rattle.format.specs.ChainLaws.{met-below, Chain, end, on, chain-met}
 use Rattle.format.specs.CheckLaws.{RulesTo5}
 use Rattle.format.specs.NameCounts.{called}
-use Rattle.format.specs.RuleLaws.{GoodEntry, GoodChain, Counted, Apart, rule1-says, says-rule1, rule2-says, says-rule2, rule3-says, says-rule3, rule4-says, says-rule4, rule5-says, says-rule5}
+use Rattle.format.specs.RuleLaws.{GoodEntry, GoodChain, Counted, Apart, rule1-says, says-rule1, rule2-says, says-rule2}
+use Rattle.format.specs.RuleLaws.{rule3-says, says-rule3, rule4-says, says-rule4, rule5-says, says-rule5}
 use Rattle.lists.specs.Counts.{few-below, OneOf}
 use Rattle.soundness.specs.Slots.{isUsed}
 
@@ -25,7 +27,7 @@ unfolding freeSlot emptySlot
 good-used s g = by (freeSlot s) refl
   where
     by : (b : Bool) → freeSlot s ≡ b → not b ≡ true
-    by true q = let zeros = same-true (s .bytes) emptySlot q in absurd (omega (arith, g .some-sector, ap (λ (bs : List ℕ). wordAt bs lengthPlace) zeros))
+    by true q = let zeros = same-true (s .bytes) emptySlot q in absurd (omega (arith, g .some-sector, ap (λ (bs : List ℕ). wordAt bs lengthOffset) zeros))
     by false q = refl
 
 -- ---- the directory and the files

@@ -15,7 +15,6 @@ use Rattle.lists.specs.Counts.{last-of, OneOf}
 use Rattle.format.specs.Geometry.{Geometry, sectors, Disc, sector}
 use Rattle.format.specs.GeometryLaws.{Full, sector-full}
 use Rattle.format.specs.Layout.{slotsEach, slotStart, Slot, freeSlot, nameOf, lengthOf, slotAt, slotsOf, slots, openSlot, find, fileChain}
-use Rattle.lists.specs.Counts.{last-of, OneOf}
 use Rattle.format.specs.NameCounts.{ofName, called, called-at, called-here}
 use Rattle.soundness.specs.Slots.{isUsed, inUse-all, inUse-used, inUse-many, SlotOf, slots-of, slots-many, slotBytes}
 use Rattle.format.specs.RuleLaws.{GoodEntry, GoodChain, Counted}

@@ -15,11 +15,10 @@ use Rattle.lists.specs.Lists.{isSome, times, lastOr}
 use Rattle.lists.specs.ListLaws.{zero-or, All, done, _also_, head-of, tail-of, all-join, at-all, times-none}
 use Rattle.lists.specs.ListLaws.{times-join, times-here, times-past, all-take, times-take, last-apart}
 use Rattle.lists.specs.Counts.{last-of, one-at-most}
-pub use Rattle.lists.specs.Counts.{one-at-most}
 use Rattle.format.specs.Refusals.{ok}
 use Rattle.format.specs.Geometry.{Geometry, sectors, Disc, Write}
 use Rattle.format.specs.GeometryLaws.{Full}
-use Rattle.format.specs.Layout.{namePlace, attributePlace, attributeOf, protectedAs, Slot, directory, free, openSlot, find, fileChain}
+use Rattle.format.specs.Layout.{nameOffset, attributeOffset, attributeOf, protectedAs, Slot, directory, free, openSlot, find, fileChain}
 use Rattle.format.specs.Check.{broken, sound}
 use Rattle.format.specs.Modules.{Module, sectorsFor, bodies}
 use Rattle.format.specs.ModuleLaws.{bodies-many}
@@ -31,21 +30,21 @@ use Rattle.format.specs.WriteLaws.{WholeOn}
 use Rattle.soundness.specs.WriteFacts.{Removable, removable, Savable, savable}
 
 -- the sectors that are written, in order
-abbrev pub places : List Write → List ℕ
-places ws = map (λ w. w .at) ws
+abbrev pub targets : List Write → List ℕ
+targets ws = map (λ w. w .at) ws
 
 -- writes of sectors of the disc, if they are whole
-on-disc : (G : Geometry) {ws : List Write} → All (λ n. n < sectors G) (places ws) → All (Whole G) ws → All (WholeOn G) ws
+on-disc : (G : Geometry) {ws : List Write} → All (λ n. n < sectors G) (targets ws) → All (Whole G) ws → All (WholeOn G) ws
 on-disc G h done = done
 on-disc G h (w also ws) = (head-of h, w (head-of h)) also on-disc G (tail-of h) ws
 
 -- ---- save
 
-chain-places : (G : Geometry) (ns : List ℕ) (bs : List (List ℕ)) → length ns ≡ length bs → places (chained G ns bs) ≡ ns
+chain-targets : (G : Geometry) (ns : List ℕ) (bs : List (List ℕ)) → length ns ≡ length bs → targets (chained G ns bs) ≡ ns
 unfolding chained
-chain-places G [] bs e = refl
-chain-places G (n ∷ ns) [] e = absurd (omega arith)
-chain-places G (n ∷ ns) (b ∷ bs) e = ap (λ (r : List ℕ). n ∷ r) (chain-places G ns bs (omega arith))
+chain-targets G [] bs e = refl
+chain-targets G (n ∷ ns) [] e = absurd (omega arith)
+chain-targets G (n ∷ ns) (b ∷ bs) e = ap (λ (r : List ℕ). n ∷ r) (chain-targets G ns bs (omega arith))
 
 module _ (G : Geometry) (d : Disc) where
   -- the sectors that a save takes for the file, and all that it takes
@@ -56,9 +55,9 @@ module _ (G : Geometry) (d : Disc) where
   allTaken m = take (sectorsFor (length (m .bytes)) + growth G d) (free G d)
 
   -- the sectors that it writes after the file's, and the directory's among them
-  abbrev pub entryPlaces : Module → Option Slot → List ℕ
-  entryPlaces m (some s) = s .home ∷ []
-  entryPlaces m none = lastOr 0 (allTaken m) ∷ lastOr 0 (directory G d) ∷ []
+  abbrev pub entryTargets : Module → Option Slot → List ℕ
+  entryTargets m (some s) = s .home ∷ []
+  entryTargets m none = lastOr 0 (allTaken m) ∷ lastOr 0 (directory G d) ∷ []
 
   abbrev pub entryHome : Option Slot → ℕ
   entryHome (some s) = s .home
@@ -79,26 +78,26 @@ module _ (G : Geometry) (d : Disc) where
     file-first : take k (allTaken m) ≡ fileTaken m
     file-first = take-take k (k + growth G d) (free G d) (omega arith)
 
-    entry-places : (e : List ℕ) (o : Option Slot) → places (entryWrites G d e (lastOr 0 (allTaken m)) o) ≡ entryPlaces m o
+    entry-targets : (e : List ℕ) (o : Option Slot) → targets (entryWrites G d e (lastOr 0 (allTaken m)) o) ≡ entryTargets m o
     unfolding entryWrites
-    entry-places e (some s) = refl
-    entry-places e none = refl
+    entry-targets e (some s) = refl
+    entry-targets e none = refl
 
     -- the sectors that a save writes, in order
-    pub saved-places : (o : Option Slot) → openSlot G d ≡ o → places (saveWrites G d nine m) ≡ 0 ∷ fileTaken m ++ entryPlaces m o
+    pub saved-targets : (o : Option Slot) → openSlot G d ≡ o → targets (saveWrites G d nine m) ≡ 0 ∷ fileTaken m ++ entryTargets m o
     unfolding saveWrites systemWrite
-    saved-places o e =
+    saved-targets o e =
         let file : List ℕ = take k (allTaken m) in
         ap (λ (r : List ℕ). 0 ∷ r)
         (map-append (λ w. w .at) (chained G file (bodies m)) _
-        ∙ ap₂ (λ (a b : List ℕ). a ++ b) (chain-places G file (bodies m) (ap length file-first ∙ file-long ∙ sym (bodies-many m)) ∙ file-first)
-        (entry-places (entryBytes G nine file) (openSlot G d) ∙ ap (entryPlaces m) e))
+        ∙ ap₂ (λ (a b : List ℕ). a ++ b) (chain-targets G file (bodies m) (ap length file-first ∙ file-long ∙ sym (bodies-many m)) ∙ file-first)
+        (entry-targets (entryBytes G nine file) (openSlot G d) ∙ ap (entryTargets m) e))
 
     grows : (o : Option Slot) → openSlot G d ≡ o → growth G d ≡ cond (isSome o) 0 1
     unfolding growth
     grows o e = ap (λ (o : Option Slot). cond (isSome o) 0 1) e
 
-    as-taken : (o : Option Slot) → openSlot G d ≡ o → fileTaken m ++ entryPlaces m o ≡ allTaken m ++ entryHome o ∷ []
+    as-taken : (o : Option Slot) → openSlot G d ≡ o → fileTaken m ++ entryTargets m o ≡ allTaken m ++ entryHome o ∷ []
     unfolding needed
     as-taken (some s) e =
         let none-more : k ≡ k + growth G d = omega (arith, grows (some s) e) in
@@ -111,8 +110,8 @@ module _ (G : Geometry) (d : Disc) where
         sym (append-assoc (fileTaken m) (new ∷ []) (home ∷ [])) ∙ ap (λ (xs : List ℕ). xs ++ home ∷ []) one-more
 
     -- the same: the system sector, those taken and one of the directory
-    pub taken-places : places (saveWrites G d nine m) ≡ 0 ∷ allTaken m ++ entryHome (openSlot G d) ∷ []
-    taken-places = saved-places (openSlot G d) refl ∙ ap (λ (r : List ℕ). 0 ∷ r) (as-taken (openSlot G d) refl)
+    pub taken-targets : targets (saveWrites G d nine m) ≡ 0 ∷ allTaken m ++ entryHome (openSlot G d) ∷ []
+    taken-targets = saved-targets (openSlot G d) refl ∙ ap (λ (r : List ℕ). 0 ∷ r) (as-taken (openSlot G d) refl)
 
   pub home-lies : Savable G d → (o : Option Slot) → openSlot G d ≡ o → 0 < times (entryHome o) (directory G d)
   home-lies v (some s) e = v .open-home s e
@@ -123,7 +122,7 @@ module _ (G : Geometry) (d : Disc) where
   save-on-disc z v nine m room =
       let k : ℕ = sectorsFor (length (m .bytes)) in
       let home : entryHome (openSlot G d) < sectors G = v .directory-high _ (home-lies v (openSlot G d) refl) in
-      on-disc G (subst (All (λ n. n < sectors G)) (sym (taken-places nine m room))
+      on-disc G (subst (All (λ n. n < sectors G)) (sym (taken-targets nine m room))
       (omega (arith, v .used-fits) also all-join (all-take (k + growth G d) (at-all (free G d) (v .free-high))) (home also done))) (saved-whole G d z nine m)
 
   -- sector 0, free sectors and one of the directory's
@@ -155,7 +154,7 @@ module _ (G : Geometry) (d : Disc) where
       → (n : ℕ) → times n (map (λ w. w .at) (saveWrites G d nine m)) ≤ 1
   save-once v nine m room n =
       let k : ℕ = sectorsFor (length (m .bytes)) in
-      subst (λ (ns : List ℕ). times n ns ≤ 1) (sym (taken-places nine m room))
+      subst (λ (ns : List ℕ). times n ns ≤ 1) (sym (taken-targets nine m room))
       (apart-once v (allTaken m) _ n (times-take n (k + growth G d) (free G d)) (home-lies v (openSlot G d) refl))
 
   -- ---- delete, rename and protect
@@ -218,11 +217,11 @@ module _ (G : Geometry) (d : Disc) where
     rename-listed old new ws p =
         let q = rename-ok G d old new ws p in
         let r = found-on (q .nine) (q .s) (q .checked) (q .found) in
-        subst (All (WholeOn G)) (q .writes) (slot-on-disc z (q .s) (r .home-high) namePlace (q .nine′) also done)
+        subst (All (WholeOn G)) (q .writes) (slot-on-disc z (q .s) (r .home-high) nameOffset (q .nine′) also done)
 
     pub protect-listed : (name : List ℕ) (on : ℕ) (ws : List Write) → protectOn G d name on ≡ ok ws → All (WholeOn G) ws
     protect-listed name on ws p =
         let q = protect-ok G d name on ws p in
         let r = found-on (q .nine) (q .s) (q .checked) (q .found) in
         let bytes : List ℕ = protectedAs (not (eqb on 0)) (attributeOf (q .s)) ∷ [] in
-        subst (All (WholeOn G)) (q .writes) (slot-on-disc z (q .s) (r .home-high) attributePlace bytes also done)
+        subst (All (WholeOn G)) (q .writes) (slot-on-disc z (q .s) (r .home-high) attributeOffset bytes also done)

@@ -12,7 +12,7 @@ use Rattle.lists.specs.ListLaws.{All, done, _also_}
 use Rattle.lists.specs.Stores.{getD-sets-in}
 use Rattle.format.specs.Geometry.{Geometry, sectors, Next, stop, go, pointed, Disc}
 use Rattle.format.specs.GeometryLaws.{pointed-stop, pointed-back, OnDisc}
-use Rattle.format.specs.Layout.{linkPlace, linkAt, pairAt, linkBytes, pairBytes, linkOf}
+use Rattle.format.specs.Layout.{linkOffset, linkAt, pairAt, linkBytes, pairBytes, linkOf}
 use Rattle.format.specs.ChainLaws.{Chain, end, on}
 use Rattle.format.specs.Effects.{withLink, headOf}
 
@@ -45,7 +45,7 @@ module _ (G : Geometry) (u : Bounded G) where
   link-back to-none = pointed-stop G 0 0 refl
   link-back (to-sector n h) = pointed-back G (u .some-sector) n h
 
-  -- a pair stored at a place
+  -- a pair stored at an offset
   pub pair-stored : (sec : List ℕ) (k : ℕ) {p : Next} → Pointable G p → k + 2 ≤ length sec → pairAt G (sets sec k (pairBytes G p)) k ≡ p
   pair-stored sec k {p} l h =
       ap₂ (λ (a b : ℕ). pointed G a b)
@@ -57,8 +57,8 @@ module _ (G : Geometry) (u : Bounded G) where
   pub link-stored : (sec : List ℕ) {p : Next} → Pointable G p → 2 ≤ length sec → linkOf G (withLink sec (linkBytes G p)) ≡ p
   link-stored sec {p} l h =
       ap₂ (λ (a b : ℕ). pointed G a b)
-      (getD-sets-in (linkBytes G p) sec linkPlace 0 0 (omega arith) (omega arith))
-      (getD-sets-in (linkBytes G p) sec linkPlace 1 0 (omega arith) (omega arith))
+      (getD-sets-in (linkBytes G p) sec linkOffset 0 0 (omega arith) (omega arith))
+      (getD-sets-in (linkBytes G p) sec linkOffset 1 0 (omega arith) (omega arith))
       ∙ link-back l
 
   -- a sector made of a link and its other bytes

@@ -18,7 +18,7 @@ use Rattle.format.specs.ModuleLaws.{bodies-many}
 use Rattle.format.specs.Effects.{headOf, chained, growth, needed, saveWrites}
 use Rattle.soundness.specs.WriteFacts.{Savable}
 use Rattle.soundness.specs.Pointers.{Bounded, head-pointable, made-link}
-use Rattle.soundness.specs.ListedWrites.{fileTaken, allTaken, taken-long, file-long, saved-places, taken-places, save-on-disc, save-once}
+use Rattle.soundness.specs.ListedWrites.{fileTaken, allTaken, taken-long, file-long, saved-targets, taken-targets, save-on-disc, save-once}
 use Rattle.soundness.specs.CopiedOut.{still}
 
 -- sectors that stand as a chain was written
@@ -49,15 +49,15 @@ module _ (G : Geometry) (u : Bounded G) (d : Disc) (z : Full G d) (v : Savable G
 
 -- the sectors that a save writes
 module _ (G : Geometry) (d : Disc) (nine : List ℕ) (m : Module) (room : needed G d (length (m .bytes)) ≤ length (free G d)) where
-  pub places-open : (s : Slot) → openSlot G d ≡ some s → map (λ w. w .at) (saveWrites G d nine m) ≡ 0 ∷ fileTaken G d m ++ s .home ∷ []
-  places-open s e = saved-places G d nine m room (some s) e
+  pub targets-open : (s : Slot) → openSlot G d ≡ some s → map (λ w. w .at) (saveWrites G d nine m) ≡ 0 ∷ fileTaken G d m ++ s .home ∷ []
+  targets-open s e = saved-targets G d nine m room (some s) e
 
-  pub places-grown : openSlot G d ≡ none
+  pub targets-grown : openSlot G d ≡ none
       → map (λ w. w .at) (saveWrites G d nine m) ≡ 0 ∷ fileTaken G d m ++ lastOr 0 (allTaken G d m) ∷ lastOr 0 (directory G d) ∷ []
-  places-grown e = saved-places G d nine m room none e
+  targets-grown e = saved-targets G d nine m room none e
 
   -- the system sector, those taken and one of the directory
   pub saved-many : length (saveWrites G d nine m) ≡ needed G d (length (m .bytes)) + 2
   saved-many =
       sym (length-map (saveWrites G d nine m) (λ w. w .at))
-      ∙ ap length (taken-places G d nine m room) ∙ simp length-append (omega (arith, taken-long G d nine m room))
+      ∙ ap length (taken-targets G d nine m room) ∙ simp length-append (omega (arith, taken-long G d nine m room))

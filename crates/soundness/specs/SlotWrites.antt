@@ -10,15 +10,15 @@ use mathlib.Core.List.{List, [], _∷_}
 use lib.ListN.{length, take, drop, length-drop}
 use lib.Seq.{sets, length-take-le, length-sets}
 use Rattle.lists.specs.Lists.{times, byte}
-use Rattle.lists.specs.Places.{Place}
+use Rattle.lists.specs.OneChanged.{OneChanged}
 use Rattle.lists.specs.Stores.{getD-sets-off, getD-sets-in, drop-sets, part-sets, part-sets-in, sets-whole}
 use Rattle.format.specs.Geometry.{Geometry, pointed, Disc, sector}
-use Rattle.format.specs.Layout.{inUsePlace, slotsEach, slotStart, Slot, slotAt, slotsAt, slotsOf}
+use Rattle.format.specs.Layout.{inUseOffset, slotsEach, slotStart, Slot, slotAt, slotsAt, slotsOf}
 use Rattle.format.specs.ChainLaws.{SameLink}
 use Rattle.format.specs.Effects.{withSlot}
-use Rattle.soundness.specs.Slots.{SlotOf, slotBytes, place-at, place-of}
+use Rattle.soundness.specs.Slots.{SlotOf, slotBytes, change-at, change-of}
 
--- ---- the sector's bytes with xs stored from place k of slot i on
+-- ---- the sector's bytes with xs stored from offset k of slot i on
 
 module _ (sec : List ℕ) (i k : ℕ) (xs : List ℕ) (fit : k + length xs ≤ 16) where
   pub store-head : (j : ℕ) → j < 3 → byte (sets sec (slotStart i + k) xs) j ≡ byte sec j
@@ -38,15 +38,15 @@ module _ (sec : List ℕ) (i k : ℕ) (xs : List ℕ) (fit : k + length xs ≤ 1
 
 module _ (sec : List ℕ) (i n : ℕ) (xs : List ℕ) (sixteen : length xs ≡ 16) where
   counted-sec : List ℕ
-  counted-sec = sets sec inUsePlace (n ∷ [])
+  counted-sec = sets sec inUseOffset (n ∷ [])
 
   counted-length : length counted-sec ≡ length sec
   unfolding counted-sec
-  counted-length = length-sets sec inUsePlace (n ∷ [])
+  counted-length = length-sets sec inUseOffset (n ∷ [])
 
   as-stored : withSlot sec i n xs ≡ sets counted-sec (slotStart i + 0) xs
   unfolding withSlot counted-sec
-  as-stored = ap (λ (a : ℕ). sets (sets sec inUsePlace (n ∷ [])) a xs) (sym (add-zero (slotStart i)))
+  as-stored = ap (λ (a : ℕ). sets (sets sec inUseOffset (n ∷ [])) a xs) (sym (add-zero (slotStart i)))
 
   pub withSlot-length : length (withSlot sec i n xs) ≡ length sec
   withSlot-length = ap length as-stored ∙ length-sets counted-sec (slotStart i + 0) xs ∙ counted-length
@@ -55,19 +55,19 @@ module _ (sec : List ℕ) (i n : ℕ) (xs : List ℕ) (sixteen : length xs ≡ 1
   unfolding counted-sec
   withSlot-head j h =
       ap (λ (r : List ℕ). byte r j) as-stored ∙ store-head counted-sec i 0 xs (omega arith) j (omega arith)
-      ∙ getD-sets-off (n ∷ []) sec inUsePlace j 0 (λ a. absurd (omega arith))
+      ∙ getD-sets-off (n ∷ []) sec inUseOffset j 0 (λ a. absurd (omega arith))
 
-  pub withSlot-count : inUsePlace < length sec → byte (withSlot sec i n xs) inUsePlace ≡ n
+  pub withSlot-count : inUseOffset < length sec → byte (withSlot sec i n xs) inUseOffset ≡ n
   unfolding counted-sec
   withSlot-count h =
-      ap (λ (r : List ℕ). byte r inUsePlace) as-stored ∙ store-head counted-sec i 0 xs (omega arith) inUsePlace (omega arith)
-      ∙ getD-sets-in (n ∷ []) sec inUsePlace 0 0 (omega arith) (omega arith)
+      ap (λ (r : List ℕ). byte r inUseOffset) as-stored ∙ store-head counted-sec i 0 xs (omega arith) inUseOffset (omega arith)
+      ∙ getD-sets-in (n ∷ []) sec inUseOffset 0 0 (omega arith) (omega arith)
 
   pub withSlot-others : (j : ℕ) → j ≢ i → slotBytes (withSlot sec i n xs) j ≡ slotBytes sec j
   unfolding counted-sec
   withSlot-others j ne =
       ap (λ (r : List ℕ). slotBytes r j) as-stored ∙ store-others counted-sec i 0 xs (omega arith) j ne
-      ∙ ap (take 16) (drop-sets (n ∷ []) sec inUsePlace (slotStart j) (omega arith))
+      ∙ ap (take 16) (drop-sets (n ∷ []) sec inUseOffset (slotStart j) (omega arith))
 
   pub withSlot-here : slotStart i + 16 ≤ length sec → slotBytes (withSlot sec i n xs) i ≡ xs
   withSlot-here h =
@@ -114,13 +114,13 @@ module _ {d d′ : Disc} {dir : List ℕ} (s : Slot) {xs : List ℕ} (o : SlotOf
   unfolding slotAt
   slot-now = ap (withBytes s) (c .here)
 
-  pub change-sector : Place (slotsAt d (s .home)) (slotsAt d′ (s .home)) s (withBytes s xs)
+  pub change-sector : OneChanged (slotsAt d (s .home)) (slotsAt d′ (s .home)) s (withBytes s xs)
   change-sector =
-      subst₂ (λ (a b : Slot). Place (slotsAt d (s .home)) (slotsAt d′ (s .home)) a b) (sym (o .is)) slot-now
-      (place-at d d′ (s .home) (s .index) (o .index-low) (c .others))
+      subst₂ (λ (a b : Slot). OneChanged (slotsAt d (s .home)) (slotsAt d′ (s .home)) a b) (sym (o .is)) slot-now
+      (change-at d d′ (s .home) (s .index) (o .index-low) (c .others))
 
   pub change-slots : times (s .home) dir ≡ 1 → ((m : ℕ) → 0 < times m dir → m ≢ s .home → sector d′ m ≡ sector d m)
-      → Place (slotsOf d dir) (slotsOf d′ dir) s (withBytes s xs)
+      → OneChanged (slotsOf d dir) (slotsOf d′ dir) s (withBytes s xs)
   change-slots once stay =
-      subst₂ (λ (a b : Slot). Place (slotsOf d dir) (slotsOf d′ dir) a b) (sym (o .is)) slot-now
-      (place-of d d′ (s .home) (s .index) (o .index-low) (c .others) dir once stay)
+      subst₂ (λ (a b : Slot). OneChanged (slotsOf d dir) (slotsOf d′ dir) a b) (sym (o .is)) slot-now
+      (change-of d d′ (s .home) (s .index) (o .index-low) (c .others) dir once stay)

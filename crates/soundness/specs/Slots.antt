@@ -8,10 +8,10 @@ use mathlib.Core.Bool.{Bool, not, true}
 use mathlib.Core.List.{List, [], _∷_, _++_}
 use lib.ListN.{length, take, drop, replicate, length-append}
 use Rattle.lists.specs.Lists.{filter, range, times}
-use Rattle.lists.specs.ListLaws.{All, done, _also_, all-join, map-same, filter-join, filter-yes, filter-no}
+use Rattle.lists.specs.ListLaws.{All, done, _also_, all-join, map-same, filter-yes, filter-no}
 use Rattle.lists.specs.ListLaws.{all-filter, filter-all, at-all, range-all, all-mapped, same-refl}
 use Rattle.lists.specs.Counts.{times-range, filter-parts}
-use Rattle.lists.specs.Places.{Place, place-map, place-joined, place-kept, place-lost, place-gained}
+use Rattle.lists.specs.OneChanged.{OneChanged, change-map, change-joined, change-kept, change-lost, change-gained}
 use Rattle.format.specs.Geometry.{Disc, sector}
 use Rattle.format.specs.Layout.{slotsEach, slotStart, Slot, emptySlot, freeSlot, inUse, slotAt, slotsAt, slotsOf}
 
@@ -27,10 +27,6 @@ empty-length = refl
 pub empty-free : (home index : ℕ) → freeSlot (record { home = home; index = index; bytes = emptySlot }) ≡ true
 unfolding freeSlot
 empty-free home index = same-refl emptySlot
-
-pub inUse-join : (ss ts : List Slot) → inUse (ss ++ ts) ≡ inUse ss ++ inUse ts
-unfolding inUse
-inUse-join ss ts = filter-join isUsed ss ts
 
 pub inUse-one : (s : Slot) (ss : List Slot) → isUsed s ≡ true → inUse (s ∷ ss) ≡ s ∷ inUse ss
 unfolding inUse
@@ -54,18 +50,18 @@ unfolding inUse
 inUse-many ss = filter-parts freeSlot ss
 
 -- one slot of a list changes: both are in use, only what it was, or only what it is now
-module _ {ss ts : List Slot} {s t : Slot} (p : Place ss ts s t) where
-  pub place-used : isUsed s ≡ true → isUsed t ≡ true → Place (inUse ss) (inUse ts) s t
+module _ {ss ts : List Slot} {s t : Slot} (p : OneChanged ss ts s t) where
+  pub change-used : isUsed s ≡ true → isUsed t ≡ true → OneChanged (inUse ss) (inUse ts) s t
   unfolding inUse
-  place-used e f = place-kept isUsed p e f
+  change-used e f = change-kept isUsed p e f
 
-  pub place-freed : isUsed s ≡ true → freeSlot t ≡ true → (inUse ss ≡ inUse (p .pre) ++ s ∷ inUse (p .post)) × (inUse ts ≡ inUse (p .pre) ++ inUse (p .post))
+  pub change-freed : isUsed s ≡ true → freeSlot t ≡ true → (inUse ss ≡ inUse (p .pre) ++ s ∷ inUse (p .post)) × (inUse ts ≡ inUse (p .pre) ++ inUse (p .post))
   unfolding inUse
-  place-freed e f = place-lost isUsed p e (ap not f)
+  change-freed e f = change-lost isUsed p e (ap not f)
 
-  pub place-filled : freeSlot s ≡ true → isUsed t ≡ true → (inUse ss ≡ inUse (p .pre) ++ inUse (p .post)) × (inUse ts ≡ inUse (p .pre) ++ t ∷ inUse (p .post))
+  pub change-filled : freeSlot s ≡ true → isUsed t ≡ true → (inUse ss ≡ inUse (p .pre) ++ inUse (p .post)) × (inUse ts ≡ inUse (p .pre) ++ t ∷ inUse (p .post))
   unfolding inUse
-  place-filled e f = place-gained isUsed p (ap not e) f
+  change-filled e f = change-gained isUsed p (ap not e) f
 
 -- ---- where a slot lies
 
@@ -113,31 +109,31 @@ slots-same d d′ n e = slots-by d d′ n (λ i. ap (λ (r : List ℕ). slotByte
 
 -- one slot of one directory sector changes
 module _ (d d′ : Disc) (n i : ℕ) (index-low : i < slotsEach) (others : (j : ℕ) → j ≢ i → slotBytes (sector d′ n) j ≡ slotBytes (sector d n) j) where
-  pub place-at : Place (slotsAt d n) (slotsAt d′ n) (slotAt d n i) (slotAt d′ n i)
+  pub change-at : OneChanged (slotsAt d n) (slotsAt d′ n) (slotAt d n i) (slotAt d′ n i)
   unfolding slotsAt
-  place-at =
-      place-map (slotAt d n) (slotAt d′ n) (range 0 slotsEach) i (times-range 0 slotsEach i (omega arith) (omega arith))
+  change-at =
+      change-map (slotAt d n) (slotAt d′ n) (range 0 slotsEach) i (times-range 0 slotsEach i (omega arith) (omega arith))
       (λ j k ne. slot-same d d′ n j (others j ne))
 
-  pub place-of : (dir : List ℕ) → times n dir ≡ 1 → ((m : ℕ) → 0 < times m dir → m ≢ n → sector d′ m ≡ sector d m)
-      → Place (slotsOf d dir) (slotsOf d′ dir) (slotAt d n i) (slotAt d′ n i)
+  pub change-of : (dir : List ℕ) → times n dir ≡ 1 → ((m : ℕ) → 0 < times m dir → m ≢ n → sector d′ m ≡ sector d m)
+      → OneChanged (slotsOf d dir) (slotsOf d′ dir) (slotAt d n i) (slotAt d′ n i)
   unfolding slotsOf
-  place-of dir h stay = place-joined (slotsAt d) (slotsAt d′) dir n h (λ m k ne. slots-same d d′ m (stay m k ne)) place-at
+  change-of dir h stay = change-joined (slotsAt d) (slotsAt d′) dir n h (λ m k ne. slots-same d d′ m (stay m k ne)) change-at
 
 -- ---- a slot among the slots of its sector
 
 module _ {d : Disc} {dir : List ℕ} (s : Slot) (o : SlotOf d dir s) where
-  own-place : Place (slotsAt d (s .home)) (slotsAt d (s .home)) s s
-  own-place =
-      subst (λ (t : Slot). Place (slotsAt d (s .home)) (slotsAt d (s .home)) t t) (sym (o .is))
-      (place-at d d (s .home) (s .index) (o .index-low) (λ j ne. refl))
+  own-change : OneChanged (slotsAt d (s .home)) (slotsAt d (s .home)) s s
+  own-change =
+      subst (λ (t : Slot). OneChanged (slotsAt d (s .home)) (slotsAt d (s .home)) t t) (sym (o .is))
+      (change-at d d (s .home) (s .index) (o .index-low) (λ j ne. refl))
 
   pub sector-some-used : isUsed s ≡ true → 1 ≤ length (inUse (slotsAt d (s .home)))
-  sector-some-used e = let p = place-used own-place e e in omega (arith, ap length (p .was), length-append (p .pre) (s ∷ p .post))
+  sector-some-used e = let p = change-used own-change e e in omega (arith, ap length (p .was), length-append (p .pre) (s ∷ p .post))
 
   pub sector-some-free : freeSlot s ≡ true → length (inUse (slotsAt d (s .home))) < slotsEach
   sector-some-free e =
-      let p = place-kept freeSlot own-place e e in
+      let p = change-kept freeSlot own-change e e in
       omega (arith, inUse-many (slotsAt d (s .home)), slotsAt-many d (s .home), ap length (p .was), length-append (p .pre) (s ∷ p .post))
 
 -- ---- a directory sector of zeros

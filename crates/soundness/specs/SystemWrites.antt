@@ -9,54 +9,54 @@ use lib.Seq.{sets, length-sets}
 use Rattle.lists.specs.Lists.{byte, word, wordAt}
 use Rattle.lists.specs.Stores.{getD-sets-off, getD-sets-in}
 use Rattle.format.specs.Geometry.{Geometry, Next, pointed, Disc}
-use Rattle.format.specs.Layout.{freePlace, directoryPlace, freeCountPlace, usedCountPlace, system, pairAt, pairBytes, directoryPointer}
+use Rattle.format.specs.Layout.{freeOffset, directoryOffset, freeCountOffset, usedCountOffset, system, pairAt, pairBytes, directoryPointer}
 use Rattle.format.specs.Effects.{systemWrite}
 use Rattle.soundness.specs.Pointers.{Bounded, Pointable, pair-stored}
 
 module _ (G : Geometry) (u : Bounded G) (d : Disc) (full : length (system d) ≡ 256) (p : Next) (l : Pointable G p) (freed used : ℕ) where
   mid : List ℕ
-  mid = sets (system d) freePlace (pairBytes G p)
+  mid = sets (system d) freeOffset (pairBytes G p)
 
   mid-length : length mid ≡ 256
   unfolding mid
-  mid-length = length-sets (system d) freePlace (pairBytes G p) ∙ full
+  mid-length = length-sets (system d) freeOffset (pairBytes G p) ∙ full
 
   sys′ : List ℕ
   sys′ = systemWrite G d p freed used .bytes
 
-  sys-is : sys′ ≡ sets mid freeCountPlace (word freed ++ word used)
+  sys-is : sys′ ≡ sets mid freeCountOffset (word freed ++ word used)
   unfolding sys′ mid systemWrite
   sys-is = refl
 
-  at-counts : (k : ℕ) → k < 4 → byte sys′ (freeCountPlace + k) ≡ byte (word freed ++ word used) k
+  at-counts : (k : ℕ) → k < 4 → byte sys′ (freeCountOffset + k) ≡ byte (word freed ++ word used) k
   at-counts k h =
-      ap (λ (r : List ℕ). byte r (freeCountPlace + k)) sys-is
-      ∙ getD-sets-in (word freed ++ word used) mid freeCountPlace k 0 h (omega (arith, mid-length))
+      ap (λ (r : List ℕ). byte r (freeCountOffset + k)) sys-is
+      ∙ getD-sets-in (word freed ++ word used) mid freeCountOffset k 0 h (omega (arith, mid-length))
 
-  before : (k : ℕ) → k < freeCountPlace → byte sys′ k ≡ byte mid k
-  before k h = ap (λ (r : List ℕ). byte r k) sys-is ∙ getD-sets-off (word freed ++ word used) mid freeCountPlace k 0 (λ a. absurd (omega arith))
+  before : (k : ℕ) → k < freeCountOffset → byte sys′ k ≡ byte mid k
+  before k h = ap (λ (r : List ℕ). byte r k) sys-is ∙ getD-sets-off (word freed ++ word used) mid freeCountOffset k 0 (λ a. absurd (omega arith))
 
-  pub system-free : pairAt G (systemWrite G d p freed used .bytes) freePlace ≡ p
+  pub system-free : pairAt G (systemWrite G d p freed used .bytes) freeOffset ≡ p
   unfolding sys′ mid
   system-free =
-      ap₂ (λ (a b : ℕ). pointed G a b) (before (freePlace + 1) (omega arith)) (before freePlace (omega arith))
-      ∙ pair-stored G u (system d) freePlace l (omega arith)
+      ap₂ (λ (a b : ℕ). pointed G a b) (before (freeOffset + 1) (omega arith)) (before freeOffset (omega arith))
+      ∙ pair-stored G u (system d) freeOffset l (omega arith)
 
   -- the two bytes of the free pointer
-  pub system-pair : (k : ℕ) → k < 2 → byte (systemWrite G d p freed used .bytes) (freePlace + k) ≡ byte (pairBytes G p) k
+  pub system-pair : (k : ℕ) → k < 2 → byte (systemWrite G d p freed used .bytes) (freeOffset + k) ≡ byte (pairBytes G p) k
   unfolding sys′ mid
-  system-pair k h = before (freePlace + k) (omega arith) ∙ getD-sets-in (pairBytes G p) (system d) freePlace k 0 h (omega arith)
+  system-pair k h = before (freeOffset + k) (omega arith) ∙ getD-sets-in (pairBytes G p) (system d) freeOffset k 0 h (omega arith)
 
-  pub system-freed : freed < 65536 → wordAt (systemWrite G d p freed used .bytes) freeCountPlace ≡ freed
+  pub system-freed : freed < 65536 → wordAt (systemWrite G d p freed used .bytes) freeCountOffset ≡ freed
   unfolding sys′
   system-freed h = ap₂ (λ (a b : ℕ). a + 256 * b) (at-counts 0 (omega arith)) (at-counts 1 (omega arith)) ∙ omega arith
 
-  pub system-used : used < 65536 → wordAt (systemWrite G d p freed used .bytes) usedCountPlace ≡ used
+  pub system-used : used < 65536 → wordAt (systemWrite G d p freed used .bytes) usedCountOffset ≡ used
   unfolding sys′
   system-used h = ap₂ (λ (a b : ℕ). a + 256 * b) (at-counts 2 (omega arith)) (at-counts 3 (omega arith)) ∙ omega arith
 
   -- the four bytes of the counts are bytes
-  pub system-small : (k : ℕ) → k < 4 → byte (systemWrite G d p freed used .bytes) (freeCountPlace + k) < 256
+  pub system-small : (k : ℕ) → k < 4 → byte (systemWrite G d p freed used .bytes) (freeCountOffset + k) < 256
   unfolding sys′
   system-small zero h = omega (arith, at-counts 0 h)
   system-small (suc zero) h = omega (arith, at-counts 1 h)
@@ -66,18 +66,19 @@ module _ (G : Geometry) (u : Bounded G) (d : Disc) (full : length (system d) ≡
 
   pub system-length : length (systemWrite G d p freed used .bytes) ≡ 256
   unfolding sys′
-  system-length = ap length sys-is ∙ length-sets mid freeCountPlace (word freed ++ word used) ∙ mid-length
+  system-length = ap length sys-is ∙ length-sets mid freeCountOffset (word freed ++ word used) ∙ mid-length
 
 -- all but the free pointer and the counts stays
-pub system-others : (G : Geometry) (d : Disc) (p : Next) (a b k : ℕ) → (freePlace ≤ k → freePlace + 2 ≤ k) → (freeCountPlace ≤ k → freeCountPlace + 4 ≤ k)
+pub system-others : (G : Geometry) (d : Disc) (p : Next) (a b k : ℕ) → (freeOffset ≤ k → freeOffset + 2 ≤ k) → (freeCountOffset ≤ k → freeCountOffset + 4 ≤ k)
     → byte (systemWrite G d p a b .bytes) k ≡ byte (system d) k
 unfolding systemWrite
 system-others G d p a b k h i =
-    getD-sets-off (word a ++ word b) (sets (system d) freePlace (pairBytes G p)) freeCountPlace k 0 i ∙ getD-sets-off (pairBytes G p) (system d) freePlace k 0 h
+    getD-sets-off (word a ++ word b) (sets (system d) freeOffset (pairBytes G p)) freeCountOffset k 0 i
+    ∙ getD-sets-off (pairBytes G p) (system d) freeOffset k 0 h
 
 -- so the directory pointer does
-pub system-directory : (G : Geometry) (d : Disc) (p : Next) (a b : ℕ) → pairAt G (systemWrite G d p a b .bytes) directoryPlace ≡ directoryPointer G d
+pub system-directory : (G : Geometry) (d : Disc) (p : Next) (a b : ℕ) → pairAt G (systemWrite G d p a b .bytes) directoryOffset ≡ directoryPointer G d
 system-directory G d p a b =
-    let stays : (k : ℕ) → directoryPlace ≤ k → k < freeCountPlace → byte (systemWrite G d p a b .bytes) k ≡ byte (system d) k =
+    let stays : (k : ℕ) → directoryOffset ≤ k → k < freeCountOffset → byte (systemWrite G d p a b .bytes) k ≡ byte (system d) k =
     λ k h i. system-others G d p a b k (λ _. omega arith) (λ j. absurd (omega arith)) in
-    ap₂ (λ (a b : ℕ). pointed G a b) (stays (directoryPlace + 1) (omega arith) (omega arith)) (stays directoryPlace (omega arith) (omega arith))
+    ap₂ (λ (a b : ℕ). pointed G a b) (stays (directoryOffset + 1) (omega arith) (omega arith)) (stays directoryOffset (omega arith) (omega arith))

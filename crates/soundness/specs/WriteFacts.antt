@@ -10,7 +10,7 @@ use lib.ListN.{length}
 use Rattle.lists.specs.Lists.{times, lastOr, byte}
 use Rattle.format.specs.Geometry.{Geometry, sectors, go, Disc, sector}
 use Rattle.format.specs.GeometryLaws.{pointed-on}
-use Rattle.format.specs.Layout.{inUsePlace, slotsEach, freeCount, usedCount, Slot, lengthOf, freePointer}
+use Rattle.format.specs.Layout.{inUseOffset, slotsEach, freeCount, usedCount, Slot, lengthOf, freePointer}
 use Rattle.format.specs.Layout.{directory, free, openSlot, find, firstOf, lastOf, fileChain}
 use Rattle.format.specs.Check.{broken}
 use Rattle.soundness.specs.Slots.{sector-some-used, sector-some-free}
@@ -37,7 +37,7 @@ pub record Removable (G : Geometry) (d : Disc) (s : Slot) : Type 0 where
   pub to-first : Pointable G (firstOf G s)
   pub to-free : Pointable G (freePointer G d)
   -- the counts
-  pub in-use : 1 ≤ byte (sector d (s .home)) inUsePlace
+  pub in-use : 1 ≤ byte (sector d (s .home)) inUseOffset
   pub used-enough : lengthOf s ≤ usedCount d
   pub free-fits : freeCount d + lengthOf s < sectors G
 
@@ -78,7 +78,7 @@ pub record Savable (G : Geometry) (d : Disc) : Type 0 where
   -- the first free slot
   pub open-home : (s : Slot) → openSlot G d ≡ some s → 0 < times (s .home) (directory G d)
   pub open-index : (s : Slot) → openSlot G d ≡ some s → s .index < slotsEach
-  pub open-count : (s : Slot) → openSlot G d ≡ some s → byte (sector d (s .home)) inUsePlace < slotsEach
+  pub open-count : (s : Slot) → openSlot G d ≡ some s → byte (sector d (s .home)) inUseOffset < slotsEach
   -- the used count after any save
   pub used-fits : usedCount d + length (free G d) < sectors G
 

@@ -13,9 +13,9 @@ use Rattle.lists.specs.Lists.{byte, elem, consIf, range, joined}
 use Rattle.format.specs.Refusals.{_>>=_, _>>_, refuse_if_, _orRefuse_, number, valueOr}
 use Rattle.format.specs.Geometry.{ten, Geometry, tracked, geometry, go, pointed, placeOf, sectorAt, chunks, reordered, Disc, sector, cut, flat, Write, written}
 use Rattle.format.specs.Names.{letter, letters, beforeDot, afterDot, withExtension, stored, discName, spaced, legalStored}
-use Rattle.format.specs.Layout.{namePlace, usedCount, Slot, emptySlot, freeSlot, inUse, slotAt, slotsAt, slotsOf, linkBytes, freePointer}
+use Rattle.format.specs.Layout.{nameOffset, usedCount, Slot, emptySlot, freeSlot, inUse, slotAt, slotsAt, slotsOf, linkBytes, freePointer}
 use Rattle.format.specs.Layout.{met, ends, directory, free, slots, entries, openSlot, find, firstOf, fileChain, fileSectors}
-use Rattle.format.specs.Modules.{allowed, sectorsFor, firstBody, laterBody, laterBodies, bodies}
+use Rattle.format.specs.Modules.{isModule, storable, sectorsFor, firstBody, laterBody, laterBodies, bodies}
 use Rattle.format.specs.Check.{goodEntry, differ, rule1, rule2, counted, rule3, rule4, goodChain, rule5, rule6, rule7, rule8, broken}
 use Rattle.format.specs.Effects.{withSlot, withLink, entryWrite, slotWrite, headOf, chained, systemWrite, entryBytes, growth}
 use Rattle.format.specs.Effects.{needed, entryWrites, saveWrites, deleteWrites, passing, version, blankFree, blankSystem, blankDisc}
@@ -46,7 +46,7 @@ back L = afterDelete ten (saved L) (text "A") (roomFor 3) .image
 
 -- ---- what differs
 
--- the places, from i on, where two images differ
+-- the offsets, from i on, where two images differ
 differing : ℕ → List ℕ → List ℕ → List ℕ
 differing i [] ys = []
 differing i (x ∷ xs) [] = []
@@ -69,10 +69,10 @@ record Exceptions : Type 0 where
 exceptions : Exceptions
 unfolding _>>=_ _>>_ refuse_if_ _orRefuse_ number valueOr ten geometry pointed placeOf sectorAt chunks reordered cut flat letter letters beforeDot afterDot
     withExtension stored discName spaced legalStored emptySlot freeSlot inUse slotAt slotsAt slotsOf met ends directory free slots entries openSlot find
-    fileChain fileSectors goodEntry differ rule1 rule2 counted rule3 rule4 goodChain rule5 rule6 rule7 rule8 broken allowed sectorsFor firstBody laterBody
-    laterBodies bodies withSlot chained systemWrite entryBytes growth needed entryWrites saveWrites deleteWrites passing version blankFree blankSystem blankDisc
-    recordOf writeList saveBeforeOn saveOn deleteOn asked listed blank answerBy changeAnswerBy checkAnswerBy afterCheck afterSave afterDelete afterBlank
-    fileTook excepted one blankOf worn saved back differing bodyOf
+    fileChain fileSectors goodEntry differ rule1 rule2 counted rule3 rule4 goodChain rule5 rule6 rule7 rule8 broken isModule storable sectorsFor firstBody
+    laterBody laterBodies bodies withSlot chained systemWrite entryBytes growth needed entryWrites saveWrites deleteWrites passing version blankFree blankSystem
+    blankDisc recordOf writeList saveBeforeOn saveOn deleteOn asked listed blank answerBy changeAnswerBy checkAnswerBy afterCheck afterSave afterDelete
+    afterBlank fileTook excepted one blankOf worn saved back differing bodyOf
 exceptions = record { start-sound = refl; took-two = refl; two-sectors = refl; took-all = refl; reaches-the-end = refl }
 
 -- ---- wrong libraries
@@ -136,15 +136,16 @@ record WrongDeletes : Type 0 where
   not-linked : Refused (deletedBy unlinked)
   next-cleared : Refused nextCleared
 
--- at a place that is not excepted: the free pointer, 0/8's track byte, the first of the thirteen, byte 2, the entry's length, the used count, the link of
+-- at an offset that is not excepted: the free pointer, 0/8's track byte, the first of the thirteen, byte 2, the entry's length, the used count, the link of
 -- 0/10, byte 2 of 0/3
 wrong-deletes : WrongDeletes
 unfolding _>>=_ _>>_ refuse_if_ _orRefuse_ number valueOr ten geometry pointed placeOf sectorAt chunks reordered cut flat letter letters beforeDot afterDot
     withExtension stored discName spaced legalStored emptySlot freeSlot inUse slotAt slotsAt slotsOf met ends directory free slots entries openSlot find
-    fileChain fileSectors goodEntry differ rule1 rule2 counted rule3 rule4 goodChain rule5 rule6 rule7 rule8 broken allowed sectorsFor firstBody laterBody
-    laterBodies bodies withSlot chained systemWrite entryBytes growth needed entryWrites saveWrites deleteWrites passing version blankFree blankSystem blankDisc
-    recordOf writeList saveBeforeOn saveOn deleteOn asked listed blank answerBy changeAnswerBy checkAnswerBy afterCheck afterSave afterDelete afterBlank
-    fileTook excepted one blankOf worn saved back deletedBy relinked behind endCleared unusedCleared countKept nameCleared usedKept unlinked nextCleared Refused
+    fileChain fileSectors goodEntry differ rule1 rule2 counted rule3 rule4 goodChain rule5 rule6 rule7 rule8 broken isModule storable sectorsFor firstBody
+    laterBody laterBodies bodies withSlot chained systemWrite entryBytes growth needed entryWrites saveWrites deleteWrites passing version blankFree blankSystem
+    blankDisc recordOf writeList saveBeforeOn saveOn deleteOn asked listed blank answerBy changeAnswerBy checkAnswerBy afterCheck afterSave afterDelete
+    afterBlank fileTook excepted one blankOf worn saved back deletedBy relinked behind endCleared unusedCleared countKept nameCleared usedKept unlinked
+    nextCleared Refused
 wrong-deletes =
     record {
       right = refl;
@@ -187,10 +188,10 @@ record Growth : Type 0 where
 growth-rows : Growth
 unfolding _>>=_ _>>_ refuse_if_ _orRefuse_ number valueOr ten geometry pointed placeOf sectorAt chunks reordered cut flat letter letters beforeDot afterDot
     withExtension stored discName spaced legalStored emptySlot freeSlot inUse slotAt slotsAt slotsOf met ends directory free slots entries openSlot find
-    fileChain fileSectors goodEntry differ rule1 rule2 counted rule3 rule4 goodChain rule5 rule6 rule7 rule8 broken allowed sectorsFor firstBody laterBody
-    laterBodies bodies withSlot chained systemWrite entryBytes growth needed entryWrites saveWrites deleteWrites passing version blankFree blankSystem blankDisc
-    recordOf writeList saveBeforeOn saveOn deleteOn asked listed blank answerBy changeAnswerBy checkAnswerBy afterCheck afterSave afterDelete afterBlank
-    fileTook excepted one blankOf worn two crowded regrown
+    fileChain fileSectors goodEntry differ rule1 rule2 counted rule3 rule4 goodChain rule5 rule6 rule7 rule8 broken isModule storable sectorsFor firstBody
+    laterBody laterBodies bodies withSlot chained systemWrite entryBytes growth needed entryWrites saveWrites deleteWrites passing version blankFree blankSystem
+    blankDisc recordOf writeList saveBeforeOn saveOn deleteOn asked listed blank answerBy changeAnswerBy checkAnswerBy afterCheck afterSave afterDelete
+    afterBlank fileTook excepted one blankOf worn two crowded regrown
 growth-rows = record { crowded-sound = refl; needs-one = refl; not-as-before = λ c. let z : _≡_ {A = ℕ} 5 0 = c .as-before 769 refl in omega arith }
 
 -- ---- wrong renames
@@ -201,7 +202,7 @@ renamedBy f i new image = let d = cut ten one image in flat ten one (written (f 
 
 -- it stores what was typed, and leaves what stood after it
 unpadded : Disc → Slot → List ℕ → List Write
-unpadded d s new = slotWrite d s namePlace new ∷ []
+unpadded d s new = slotWrite d s nameOffset new ∷ []
 
 -- it moves the entry to the other of the first two slots
 moving : Disc → Slot → List ℕ → List Write
@@ -223,9 +224,9 @@ record WrongRenames : Type 0 where
 wrong-renames : WrongRenames
 unfolding _>>=_ _>>_ refuse_if_ _orRefuse_ number valueOr ten geometry pointed placeOf sectorAt chunks reordered cut flat letter letters beforeDot afterDot
     withExtension stored discName spaced legalStored emptySlot freeSlot inUse slotAt slotsAt slotsOf met ends directory free slots entries openSlot find
-    fileChain fileSectors goodEntry differ rule1 rule2 counted rule3 rule4 goodChain rule5 rule6 rule7 rule8 broken allowed sectorsFor firstBody laterBody
-    laterBodies bodies withSlot chained systemWrite entryBytes growth needed entryWrites saveWrites deleteWrites passing version blankFree blankSystem blankDisc
-    recordOf writeList saveBeforeOn saveOn deleteOn renameOn asked listed blank answerBy changeAnswerBy checkAnswerBy afterCheck afterSave afterDelete
+    fileChain fileSectors goodEntry differ rule1 rule2 counted rule3 rule4 goodChain rule5 rule6 rule7 rule8 broken isModule storable sectorsFor firstBody
+    laterBody laterBodies bodies withSlot chained systemWrite entryBytes growth needed entryWrites saveWrites deleteWrites passing version blankFree blankSystem
+    blankDisc recordOf writeList saveBeforeOn saveOn deleteOn renameOn asked listed blank answerBy changeAnswerBy checkAnswerBy afterCheck afterSave afterDelete
     afterRename afterBlank fileTook excepted one blankOf worn saved renamedBy unpadded moving
 wrong-renames =
     record {

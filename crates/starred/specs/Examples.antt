@@ -16,7 +16,7 @@ use Rattle.format.specs.Names.{letter, letters, beforeDot, afterDot, withExtens
 use Rattle.format.specs.Layout.{freeCount, emptySlot, freeSlot, inUse, slotAt, slotsAt, slotsOf, met, ends}
 use Rattle.format.specs.Layout.{directory, free, slots, entries, openSlot, find, fileChain, fileSectors}
 use Rattle.format.specs.Check.{goodEntry, differ, rule1, rule2, counted, rule3, rule4, goodChain, rule5, rule6, rule7, rule8, broken}
-use Rattle.format.specs.Modules.{Module, allowed, sectorsFor, firstBody, laterBody, laterBodies, bodies, guessed, plain}
+use Rattle.format.specs.Modules.{Module, isModule, storable, sectorsFor, firstBody, laterBody, laterBodies, bodies, guessed, plain}
 use Rattle.format.specs.Effects.{withSlot, chained, systemWrite, entryBytes, growth, needed, entryWrites, saveWrites}
 use Rattle.format.specs.Effects.{deleteWrites, reading, listing, passing, version, blankFree, blankSystem, blankDisc}
 use Rattle.format.specs.Writes.{recordOf, writeList, listSize}
@@ -109,10 +109,11 @@ record Starred : Type 0 where
 starred : Starred
 unfolding _>>=_ _>>_ refuse_if_ _orRefuse_ number valueOr ten geometry pointed placeOf sectorAt chunks reordered cut flat letter letters beforeDot afterDot
     withExtension stored discName spaced legalStored emptySlot freeSlot inUse slotAt slotsAt slotsOf met ends directory free slots entries openSlot find
-    fileChain fileSectors goodEntry differ rule1 rule2 counted rule3 rule4 goodChain rule5 rule6 rule7 rule8 broken allowed sectorsFor firstBody laterBody
-    laterBodies bodies guessed plain withSlot chained systemWrite entryBytes growth needed entryWrites saveWrites deleteWrites reading listing passing version
-    blankFree blankSystem blankDisc listOn readOn saveBeforeOn saveOn deleteOn renameOn protectOn asked listed recordOf writeList blank answerBy changeAnswerBy
-    listAnswerBy readAnswerBy afterList afterRead afterSave afterDelete afterRename afterProtect afterBlank blankOf answers afterThursday forty disc40 _/:_
+    fileChain fileSectors goodEntry differ rule1 rule2 counted rule3 rule4 goodChain rule5 rule6 rule7 rule8 broken isModule storable sectorsFor firstBody
+    laterBody laterBodies bodies guessed plain withSlot chained systemWrite entryBytes growth needed entryWrites saveWrites deleteWrites reading listing passing
+    version blankFree blankSystem blankDisc listOn readOn saveBeforeOn saveOn deleteOn renameOn protectOn asked listed recordOf writeList blank answerBy
+    changeAnswerBy listAnswerBy readAnswerBy afterList afterRead afterSave afterDelete afterRename afterProtect afterBlank blankOf answers afterThursday forty
+    disc40 _/:_
 starred =
     record {
       name-X = refl;

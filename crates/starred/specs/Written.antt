@@ -11,7 +11,7 @@ use Rattle.format.specs.Names.{letter, letters, beforeDot, afterDot, withExtens
 use Rattle.format.specs.Layout.{emptySlot, freeSlot, inUse, slotAt, slotsAt, slotsOf, met, ends}
 use Rattle.format.specs.Layout.{directory, free, slots, entries, openSlot, find, fileChain, fileSectors}
 use Rattle.format.specs.Check.{goodEntry, differ, rule1, rule2, counted, rule3, rule4, goodChain, rule5, rule6, rule7, rule8, broken}
-use Rattle.format.specs.Modules.{allowed, sectorsFor, firstBody, laterBody, laterBodies, bodies}
+use Rattle.format.specs.Modules.{isModule, storable, sectorsFor, firstBody, laterBody, laterBodies, bodies}
 use Rattle.format.specs.Effects.{withSlot, chained, systemWrite, entryBytes, growth, needed, entryWrites}
 use Rattle.format.specs.Effects.{saveWrites, deleteWrites, passing, version, blankFree, blankSystem, blankDisc}
 use Rattle.format.specs.Writes.{recordOf, writeList, heldAfter}
@@ -61,10 +61,10 @@ record Written : Type 0 where
 written-rows : Written
 unfolding _>>=_ _>>_ refuse_if_ _orRefuse_ number valueOr ten geometry pointed placeOf sectorAt chunks reordered cut flat letter letters beforeDot afterDot
     withExtension stored discName spaced legalStored emptySlot freeSlot inUse slotAt slotsAt slotsOf met ends directory free slots entries openSlot find
-    fileChain fileSectors goodEntry differ rule1 rule2 counted rule3 rule4 goodChain rule5 rule6 rule7 rule8 broken allowed sectorsFor firstBody laterBody
-    laterBodies bodies withSlot chained systemWrite entryBytes growth needed entryWrites saveWrites deleteWrites passing version blankFree blankSystem blankDisc
-    saveBeforeOn saveOn deleteOn renameOn protectOn asked listed recordOf writeList blank answerBy changeAnswerBy afterSave afterDelete afterRename afterProtect
-    afterBlank heldAfter replayOn changed afterReplay thursday heads recordFor blankOf
+    fileChain fileSectors goodEntry differ rule1 rule2 counted rule3 rule4 goodChain rule5 rule6 rule7 rule8 broken isModule storable sectorsFor firstBody
+    laterBody laterBodies bodies withSlot chained systemWrite entryBytes growth needed entryWrites saveWrites deleteWrites passing version blankFree blankSystem
+    blankDisc saveBeforeOn saveOn deleteOn renameOn protectOn asked listed recordOf writeList blank answerBy changeAnswerBy afterSave afterDelete afterRename
+    afterProtect afterBlank heldAfter replayOn changed afterReplay thursday heads recordFor blankOf
 written-rows =
     record {
       save-heads = refl;

@@ -85,8 +85,8 @@ pub fn put_system(image: &mut [u8], g: Geometry, pointer: Link, free: usize, use
       let d = sectorsOf g (now (image .entry))
       ⌜ sectorsOf g (now (image .exit)) ≡ written (systemWrite (geo g) d (meaning pointer) free used ∷ []) d ⌝ }
 {
-    let place = disc::place_of(g, pointer);
-    let pair = [place.sector, place.track];
+    let address = disc::address_of(g, pointer);
+    let pair = [address.sector, address.track];
     disc::put(image, g, SYSTEM, FREE_POINTER, &pair);
     let counts = [
         (free % 256) as u8,

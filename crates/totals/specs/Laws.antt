@@ -47,19 +47,16 @@ end-first (k ∷ []) h = refl
 end-first (k ∷ a ∷ rest) h = absurd (omega arith)
 
 module _ (s : List ℕ) (k : ℕ) where
-  left : length (drop k s) ≡ length s - k
-  left = length-drop k s
-
   record-at : k + 5 ≤ length s → creditsOf (drop k s) ≡ inFront (byte s k) (bodyAt s k) (creditsOf (drop (k + 5) s))
-  record-at h = record-first (drop k s) (omega (arith, left)) ∙ simp (getD-drop, drop-drop, add-zero) refl
+  record-at h = record-first (drop k s) (omega (arith, length-drop k s)) ∙ simp (getD-drop, drop-drop, add-zero) refl
 
   pub cut-at : length s - k < 5 → (length s - k ≡ 1 → ⊥) → none ≡ creditsOf (drop k s)
-  cut-at h n = cut-first (drop k s) (omega (arith, left)) (λ e. n (sym left ∙ e))
+  cut-at h n = cut-first (drop k s) (omega (arith, length-drop k s)) (λ e. n (sym (length-drop k s) ∙ e))
 
   pub end-at : length s - k ≡ 1 → cond (eqb (byte s k) 0) (some []) none ≡ creditsOf (drop k s)
   end-at h =
       let here : byte (drop k s) 0 ≡ byte s k = simp (getD-drop, add-zero) refl in
-      ap (λ (b : ℕ). cond (eqb b 0) (some []) none) (sym here) ∙ end-first (drop k s) (left ∙ h)
+      ap (λ (b : ℕ). cond (eqb b 0) (some []) none) (sym here) ∙ end-first (drop k s) (length-drop k s ∙ h)
 
   -- the record's two numbers, where they stand in the sheet
   worker-at : wordAt s (k + 1) ≡ creditOf (bodyAt s k) .worker

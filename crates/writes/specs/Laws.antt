@@ -137,5 +137,5 @@ module _ {g : Geometry} {before : List ℕ} (lent : List ℕ) (i : Image g befor
       let is : copied (geo g) (sectorsOf g after) ns ≡ list =
       ap₂ (copied (geo g)) s e ∙ copied-out (geo g) (sectorsOf g before) (image-full i) ws whole once in
       let fits : length list ≤ length lent = omega (arith, list-long (geo g) whole) in
-      let size : r .length ≡ length list = c .stored .place ∙ omega (arith, ap length is) in
+      let size : r .length ≡ length list = c .stored .position ∙ omega (arith, ap length is) in
       done-lists g before lent ws fits s (c .done) size (c .stored .buffer ∙ ap (sets lent 0) is ∙ sets-front lent list fits)

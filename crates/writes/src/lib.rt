@@ -26,7 +26,7 @@ pub fn list_size(count: usize) -> usize
     records::WRITE_SIZE * count + 1
 }
 
-// Stores the record of a sector as it stands, and gives the place after it.
+// Stores the record of a sector as it stands, and gives the position after it.
 fn put_write(image: &[u8], g: Geometry, s: Sector, buffer: &mut [u8], at: usize) -> usize
     requires { ⌜ Image g (now image) × Lies g s × (at + 259 ≤ length (now buffer)) ⌝ }
     ensures { λ r. ⌜ Stored (now (buffer .entry)) at
@@ -35,8 +35,8 @@ fn put_write(image: &[u8], g: Geometry, s: Sector, buffer: &mut [u8], at: usize)
     let n = s.number;
     let start = s.start;
     let end = start + 256;
-    let place = disc::place_of(g, Link::To(n));
-    let head = [place.track, place.sector];
+    let address = disc::address_of(g, Link::To(n));
+    let head = [address.track, address.sector];
     records::put_record(buffer, at, records::WRITE, &head, &image[start..end])
 }
 
@@ -49,7 +49,7 @@ fn put_numbered(image: &[u8], g: Geometry, n: SectorNo, buffer: &mut [u8], at: u
     put_write(image, g, disc::sector_of(g, n), buffer, at)
 }
 
-// Stores the records of the sectors of a chain, at most `count` of them, and gives the place after them.
+// Stores the records of the sectors of a chain, at most `count` of them, and gives the position after them.
 fn put_chain(
     image: &[u8],
     g: Geometry,
@@ -65,16 +65,16 @@ fn put_chain(
 {
     let mut step = disc::step_to(g, first);
     let mut left = count;
-    let mut place = at;
+    let mut position = at;
     while 0 < left {
         let Step::To(s) = step else {
-            return place;
+            return position;
         };
-        place = put_write(image, g, s, buffer, place);
+        position = put_write(image, g, s, buffer, position);
         step = disc::step_from(image, g, s);
         left -= 1;
     }
-    place
+    position
 }
 
 // Ends a list with kind 0.

@@ -8,7 +8,7 @@ use mathlib.Core.List.{[], _∷_}
 use lib.ListN.{set}
 use Rattle.format.specs.Geometry.{Disc, sector, sectorNumber}
 use Rattle.format.specs.GeometryLaws.{sector-full}
-use Rattle.format.specs.Layout.{linkPlace}
+use Rattle.format.specs.Layout.{linkOffset}
 use Rattle.geometry.specs.Meaning.{geo, sectorsOf}
 use Rattle.disc.specs.Meaning.{storedAt}
 use Rattle.geometry.specs.Laws.{image-full}
@@ -39,7 +39,7 @@ returns c =
     let n : ℕ = sectorNumber (geo (a .g)) (a .track) (a .from % 256) in
     let long = sector-full (image-full im) n (omega (arith, at .stop-on .ensures .0, at .stop-on .ensures .1 .on, im .valid .total)) in
     put .put-in .ensures
-    ∙ ap (λ (m : ℕ). storedAt d m linkPlace (a .to .track ∷ a .to .sector ∷ [])) (at .stop-on .ensures .0)
+    ∙ ap (λ (m : ℕ). storedAt d m linkOffset (a .to .track ∷ a .to .sector ∷ [])) (at .stop-on .ensures .0)
     ∙ ap (set d n) (link-stored (sector d n) _ _ (omega (arith, long)) (start .pre .3))
 
 pub link-to-spec : {M : Type 1} → statement M

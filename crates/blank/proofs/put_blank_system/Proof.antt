@@ -10,7 +10,7 @@ use lib.Seq.{sets}
 use Rattle.lists.specs.Lists.{word}
 use Rattle.format.specs.Geometry.{Disc, sector, sectors}
 use Rattle.format.specs.GeometryLaws.{length-cut, sector-again}
-use Rattle.format.specs.Layout.{freePlace, freeCountPlace, discNamePlace, versionPlace}
+use Rattle.format.specs.Layout.{freeOffset, freeCountOffset, discNameOffset, versionOffset}
 use Rattle.format.specs.Effects.{version}
 use Rattle.geometry.specs.Meaning.{geo, sectorsOf, form}
 use Rattle.disc.specs.Meaning.{storedAt}
@@ -98,16 +98,19 @@ returns c =
     let pairs : List ℕ = paired .pointers .result in
     let counts : List ℕ = word (a .g .sectors - 2) ++ word 0 in
     let nine : List ℕ = a .name .bytes in
-    let one : List ℕ = sets (sector d 0) freePlace pairs in
-    let two : List ℕ = sets one freeCountPlace counts in
-    let three : List ℕ = sets two discNamePlace nine in
+    let one : List ℕ = sets (sector d 0) freeOffset pairs in
+    let two : List ℕ = sets one freeCountOffset counts in
+    let three : List ℕ = sets two discNameOffset nine in
+    let with-version : Disc → Disc = λ x. storedAt x 0 versionOffset version in
+    let with-name : Disc → Disc = λ x. with-version (storedAt x 0 discNameOffset nine) in
+    let with-counts : Disc → Disc = λ x. with-name (storedAt x 0 freeCountOffset counts) in
     versioned .put-version .ensures
-    ∙ ap (λ (x : Disc). storedAt x 0 versionPlace version) (named .put3 .ensures)
-    ∙ ap (λ (x : Disc). storedAt (storedAt x 0 discNamePlace nine) 0 versionPlace version) (counted .put2 .ensures)
-    ∙ ap (λ (x : Disc). storedAt (storedAt (storedAt x 0 freeCountPlace counts) 0 discNamePlace nine) 0 versionPlace version) (pointed .put .ensures)
-    ∙ ap (λ (x : Disc). storedAt (storedAt x 0 discNamePlace nine) 0 versionPlace version) (sector-again d 0 freeCountPlace one counts on)
-    ∙ ap (λ (x : Disc). storedAt x 0 versionPlace version) (sector-again d 0 discNamePlace two nine on)
-    ∙ sector-again d 0 versionPlace three version on
+    ∙ ap with-version (named .put3 .ensures)
+    ∙ ap with-name (counted .put2 .ensures)
+    ∙ ap with-counts (pointed .put .ensures)
+    ∙ ap with-name (sector-again d 0 freeCountOffset one counts on)
+    ∙ ap with-version (sector-again d 0 discNameOffset two nine on)
+    ∙ sector-again d 0 versionOffset three version on
     ∙ ap (set d 0) (system-is G nine (sector d 0) pairs (a .g .sectors) (start .pre .2) (paired .pointers .ensures) (start .pre .0 .valid .total))
 
 pub put-blank-system-spec : {M : Type 1} → statement M

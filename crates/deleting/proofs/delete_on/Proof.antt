@@ -32,9 +32,9 @@ abbrev at-delete : tie.After-slice-known4 → tie.After-delete-entry
 at-delete c = c .before .before .before .before
 
 -- what `entry_on` gave
-judged : (c : tie.After-entry-on) {r : Judged} → c .entry-on .result ≡ r → Judges (at-start c .args .g) (at-start c .args .image .now) r
-    (entryOn (geo (at-start c .args .g)) (sectorsOf (at-start c .args .g) (at-start c .args .image .now)) (at-start c .args .name .now))
-judged c e = judged-as (at-start c .args .g) (at-start c .args .image .now) (at-start c .args .name .now) e (c .entry-on .ensures)
+judged : (c : tie.After-entry-on) {r : Judged} → c .entry-on .result ≡ r → let a = at-start c .args in
+    Judges (a .g) (a .image .now) r (entryOn (geo (a .g)) (sectorsOf (a .g) (a .image .now)) (a .name .now))
+judged c e = let a = at-start c .args in judged-as (a .g) (a .image .now) (a .name .now) e (c .entry-on .ensures)
 
 entry-on-requires : tie.Need-entry-on-requires
 entry-on-requires c κs = search needs
@@ -73,9 +73,9 @@ delete-entry-requires : tie.Need-delete-entry-requires
 delete-entry-requires c κs =
     let told = at-n (at-plain c .before) in
     let found = told .before .before in
-    let place = judged found (told .n .given .1) in
-    let entry = entry-ok _ _ _ _ (place .0) in
-    (at-start found .pre, place .1, place .2, removable _ _ (entry .nine) _ (eqb-true _ _ (entry .checked)) (entry .found))
+    let entry-at = judged found (told .n .given .1) in
+    let entry = entry-ok _ _ _ _ (entry-at .0) in
+    (at-start found .pre, entry-at .1, entry-at .2, removable _ _ (entry .nine) _ (eqb-true _ _ (entry .checked)) (entry .found))
 
 same-length-2 : tie.Need-same-length-2
 same-length-2 c = search needs

@@ -4,7 +4,6 @@ use borrow.Author.Needs.{needs}
 use native.Mathlib.Omega.{arith}
 use Prim.Native.Nat.{_-_, _≤_}
 use mathlib.Core.Path.{_≡_, ap, sym, _∙_}
-use Rattle.format.specs.Geometry.{Disc}
 use Rattle.format.specs.Layout.{slotsEach, slotsAt}
 use Rattle.geometry.specs.Meaning.{sectorsOf}
 use Rattle.directory.specs.Meaning.{wantedOf, firstThat}
@@ -30,14 +29,9 @@ is-wanted-requires c κs = search needs
 
 returns : tie.Need-returns Inv-loop μ-loop
 returns c =
-    let a = c .before .before .before .before .before .args in
-    let loop = c .before .before .before .loop in
-    let d : Disc = sectorsOf (a .g) (a .image .now) in
-    let wanted = sym (c .before .is-wanted .ensures) ∙ c .if1 .taken in
-    record {
-      slot = sym (loop .inv .1 ∙ first-here (wantedOf (a .w)) d (a .n .0) (loop .i) (omega arith) wanted);
-      within = (omega arith, omega arith);
-    }
+    let turn = c .before .before in
+    let here = first-here _ _ _ _ (turn .loop-test .taken) (sym (c .before .is-wanted .ensures) ∙ c .if1 .taken) in
+    record { slot = sym (turn .before .loop .inv .1 ∙ here); within = (omega arith, omega arith) }
 
 add-i : tie.Need-add-i Inv-loop μ-loop
 add-i c = search needs
@@ -47,19 +41,12 @@ loop-less c = search needs
 
 loop-again : tie.Need-loop-again Inv-loop μ-loop
 loop-again c =
-    let a = c .before .before .before .before .before .args in
-    let loop = c .before .before .before .loop in
-    let d : Disc = sectorsOf (a .g) (a .image .now) in
-    let other = sym (c .before .is-wanted .ensures) ∙ c .if1 .left in
-    (omega arith, loop .inv .1 ∙ first-next (wantedOf (a .w)) d (a .n .0) (loop .i) (omega arith) other)
+    let turn = c .before .before in
+    (omega arith, turn .before .loop .inv .1 ∙ first-next _ _ _ _ (turn .loop-test .taken) (sym (c .before .is-wanted .ensures) ∙ c .if1 .left))
 
 returns-2 : tie.Need-returns-2 Inv-loop μ-loop
 returns-2 c =
-    let a = c .before .before .before .args in
-    let loop = c .before .loop in
-    let d : Disc = sectorsOf (a .g) (a .image .now) in
-    let over = slots-end d (a .n .0) (loop .i) (omega arith) in
-    record { slot = sym (loop .inv .1 ∙ ap (firstThat (wantedOf (a .w))) over); within = tt }
+    record { slot = sym (c .before .loop .inv .1 ∙ ap (firstThat _) (slots-end _ _ _ (c .loop-test .left))); within = tt }
 
 pub search-sector-spec : {M : Type 1} → statement M
 search-sector-spec =

@@ -1,12 +1,7 @@
 -- `disc::byte_of` meets its contract.
 -- Assumes nothing.
-use mathlib.Core.Path.{sym, ap, _∙_}
-use Prim.Native.Nat.{ℕ, _+_}
-use native.Mathlib.Omega.{arith}
-use lib.ListN.{getD}
 use borrow.Author.Needs.{needs}
-use Rattle.format.specs.GeometryLaws.{byte-cut}
-use Rattle.geometry.specs.Laws.{each-once}
+use Rattle.geometry.specs.Laws.{byte-at}
 use Rattle.disc.proofs.byte_of.Statement.{statement}
 use Rattle.disc.proofs.byte_of.Tie as tie
 
@@ -21,8 +16,8 @@ shared-slice-read-result c = search needs
 
 returns : tie.Need-returns
 returns c =
-    let a = c .before .before .before .args in
-    ap (λ (j : ℕ). getD (a .image .now) (j + a .k) 0) (c .before .start-of .ensures .at) ∙ sym (byte-cut _ _ (each-once (c .before .before .before .pre .0 .valid)) _ _ _ (omega arith) (omega arith))
+    let start = c .before .before .before in
+    byte-at (start .pre .0) (c .before .start-of .ensures) (start .pre .1) (start .args .k) (start .pre .2)
 
 pub byte-of-spec : {M : Type 1} → statement M
 byte-of-spec = tie.close (tie.spec start-of-requires add-result shared-slice-read-result returns)

@@ -24,8 +24,9 @@ pointed-at-requires c κs = search needs
 
 returns : tie.Need-returns
 returns c =
-    let start = c .before .before .before .before .before in
-    let bytes = link-at (start .pre .0) (c .before .before .before .start-of .ensures) (start .pre .1) in
+    let sector = c .before .before .before in
+    let start = sector .before .before in
+    let bytes = link-at (start .pre .0) (sector .start-of .ensures) (start .pre .1) in
     c .pointed-at .ensures ∙ ap₂ (pointed _) (bytes .0) (bytes .1)
 
 pub link-of-spec : {M : Type 1} → statement M

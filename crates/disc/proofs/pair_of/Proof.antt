@@ -27,8 +27,9 @@ pointed-at-requires c κs = search needs
 
 returns : tie.Need-returns
 returns c =
-    let start = c .before .before .before .before .before in
-    let bytes = bytes-at (start .pre .0) (c .before .before .before .start-of .ensures) (start .pre .1) (start .args .k) (start .pre .2) in
+    let sector = c .before .before .before in
+    let start = sector .before .before in
+    let bytes = bytes-at (start .pre .0) (sector .start-of .ensures) (start .pre .1) (start .args .k) (start .pre .2) in
     c .pointed-at .ensures ∙ ap₂ (pointed _) (bytes .1) (bytes .0)
 
 pub pair-of-spec : {M : Type 1} → statement M

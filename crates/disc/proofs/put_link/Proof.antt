@@ -4,8 +4,8 @@ use borrow.Author.Needs.{needs}
 use Rattle.disc.proofs.put_link.Statement.{statement}
 use Rattle.disc.proofs.put_link.Tie as tie
 
-place-of-requires : tie.Need-place-of-requires
-place-of-requires c κs = search needs
+address-of-requires : tie.Need-address-of-requires
+address-of-requires c κs = search needs
 
 slice-aggregate-put : tie.Need-slice-aggregate-put
 slice-aggregate-put c = search needs
@@ -18,9 +18,10 @@ same-length c = search needs
 
 returns : tie.Need-returns
 returns c =
-    let place = c .before .before .before .before .before .place-of .ensures in
-    rw (← place .0, ← place .1) (c .before .before .put .ensures)
+    let put = c .before .before in
+    let address = put .before .before .before .address-of .ensures in
+    rw (← address .0, ← address .1) (put .put .ensures)
 
 pub put-link-spec : {M : Type 1} → statement M
 put-link-spec =
-    tie.close (tie.spec place-of-requires slice-aggregate-put put-requires same-length returns)
+    tie.close (tie.spec address-of-requires slice-aggregate-put put-requires same-length returns)

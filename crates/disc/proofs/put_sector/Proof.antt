@@ -1,13 +1,13 @@
--- `disc::put_sector` meets its contract: 256 bytes stored from place 0 on are the whole sector.
+-- `disc::put_sector` meets its contract: 256 bytes stored from offset 0 on are the whole sector.
 -- Assumes nothing.
 use mathlib.Core.Path.{_≡_}
 use native.Mathlib.Omega.{arith}
 use lib.ListN.{length}
 use borrow.Author.Needs.{needs}
 use Rattle.format.specs.Geometry.{sector}
-use Rattle.format.specs.GeometryLaws.{cut-full, sector-full}
-use Rattle.geometry.specs.Meaning.{form, geo, sectorsOf}
-use Rattle.geometry.specs.Laws.{each-once}
+use Rattle.format.specs.GeometryLaws.{sector-full}
+use Rattle.geometry.specs.Meaning.{sectorsOf}
+use Rattle.geometry.specs.Laws.{image-full}
 use Rattle.lists.specs.Stores.{sets-whole}
 use Rattle.disc.proofs.put_sector.Statement.{statement}
 use Rattle.disc.proofs.put_sector.Tie as tie
@@ -20,11 +20,12 @@ same-length c = search needs
 
 returns : tie.Need-returns
 returns c =
-    let a = c .before .before .before .before .before .before .args in
-    let d = sectorsOf (a .g) (a .image .now) in
-    let full = cut-full (form (a .g)) (geo (a .g)) (each-once (c .before .before .before .before .before .before .pre .0 .valid)) (a .image .now) (omega arith) in
-    let long : length (sector d (a .n .0)) ≡ 256 = sector-full full (a .n .0) (omega arith) in
-    rw (sets-whole (sector d (a .n .0)) (a .from .now) (omega arith)) at (c .before .before .put .ensures)
+    let put = c .before .before in
+    let start = put .before .before .before .before in
+    let a = start .args in
+    let old = sector (sectorsOf (a .g) (a .image .now)) (a .n .0) in
+    let long : length old ≡ 256 = sector-full (image-full (start .pre .0)) (a .n .0) (omega arith) in
+    rw (sets-whole old (a .from .now) (omega arith)) at (put .put .ensures)
 
 pub put-sector-spec : {M : Type 1} → statement M
 put-sector-spec = tie.close (tie.spec put-requires same-length returns)

@@ -8,7 +8,8 @@ use Rattle.lists.specs.ListLaws.{All, done, _also_}
 use Rattle.format.specs.Layout.{slotAt}
 use Rattle.format.specs.Effects.{slotWrite}
 use Rattle.format.specs.WriteLaws.{WholeOn}
-use Rattle.soundness.specs.ListedWrites.{slot-on-disc, one-at-most}
+use Rattle.lists.specs.Counts.{one-at-most}
+use Rattle.soundness.specs.ListedWrites.{slot-on-disc}
 use Rattle.geometry.specs.Meaning.{geo, sectorsOf}
 use Rattle.geometry.specs.Laws.{image-full, image-kept}
 use Rattle.writes.specs.Laws.{listed-short, listed-done}

@@ -19,8 +19,9 @@ enum-known-from c = search needs
 
 follow-from-requires : tie.Need-follow-from-requires
 follow-from-requires c κs =
-    let start = c .before .before .before .before .before in
-    (start .pre .0, reached _ (c .before .before .from .given .1) (start .pre .1))
+    let told = c .before .before in
+    let start = told .before .before .before in
+    (start .pre .0, reached _ (told .from .given .1) (start .pre .1))
 
 returns : tie.Need-returns
 returns c =

@@ -18,7 +18,9 @@ enum-told-2 : tie.Need-enum-told-2
 enum-told-2 c = search needs
 
 returns : tie.Need-returns
-returns c = sym (ap (λ (l : Link). at? (meaning l) (c .before .before .before .before .before .args .n .0)) (c .before .before .before .link .given .1))
+returns c =
+    let link = c .before .before .before in
+    sym (ap (λ (l : Link). at? (meaning l) (link .before .before .args .n .0)) (link .link .given .1))
 
 returns-2 : tie.Need-returns-2
 returns-2 c = search needs

@@ -16,7 +16,9 @@ slice-aggregate-directory-differs : tie.Need-slice-aggregate-directory-differs
 slice-aggregate-directory-differs c = sym (ap length (c .before .tally-names .ensures) ∙ tally-long _ _ _ ∙ length-replicate {A = ℕ} 16384 0)
 
 directory-differs-requires : tie.Need-directory-differs-requires
-directory-differs-requires c κs = (c .before .before .before .before .pre, covers-tallied 16384 _ _ (length-replicate {A = ℕ} 16384 0) (omega arith) (c .before .tally-names .ensures))
+directory-differs-requires c κs =
+    let start = c .before .before .before .before in
+    (start .pre, covers-tallied 16384 _ _ (length-replicate {A = ℕ} 16384 0) (omega arith) (c .before .tally-names .ensures))
 
 returns : tie.Need-returns
 returns c = search needs

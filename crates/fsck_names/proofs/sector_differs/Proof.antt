@@ -47,7 +47,8 @@ loop-again c =
     let test = c .before .before in
     let inv = test .before .loop .inv in
     let later = use-next _ _ _ (test .loop-test .taken) in
-    (search needs, covers-slots _ _ _ _ (inv .1) (test .loop-test .taken), apart-next _ (inv .2) _ _ later (c .before .slot-differs .ensures) (not-false _ (c .if1 .left)))
+    let apart = apart-next _ (inv .2) _ _ later (c .before .slot-differs .ensures) (not-false _ (c .if1 .left)) in
+    (search needs, covers-slots _ _ _ _ (inv .1) (test .loop-test .taken), apart)
 
 returns-2 : tie.Need-returns-2 Inv-loop μ-loop
 returns-2 c = apart-over _ (c .before .loop .inv .2) (use-over _ _ _ (c .loop-test .left))

@@ -25,7 +25,11 @@ element-write-table : tie.Need-element-write-table
 element-write-table c = search needs
 
 returns-2 : tie.Need-returns-2
-returns-2 c = tally-used _ _ _ (sym (c .before .before .before .before .slot-free .ensures) ∙ c .before .before .before .if1 .left) _ (c .before .before .slot-bucket .ensures .0) (c .one-more .ensures)
+returns-2 c =
+    let bucket = c .before .before in
+    let entry = bucket .before in
+    let used = sym (entry .before .slot-free .ensures) ∙ entry .if1 .left in
+    tally-used _ _ _ used _ (bucket .slot-bucket .ensures .0) (c .one-more .ensures)
 
 pub tally-slot-spec : {M : Type 1} → statement M
 tally-slot-spec =

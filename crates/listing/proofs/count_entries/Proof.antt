@@ -3,15 +3,15 @@
 use borrow.Author.Needs.{needs}
 use native.Mathlib.Omega.{arith}
 use Prim.Native.Nat.{ℕ, _+_}
-use mathlib.Core.Path.{_≡_, ap, _∙_, subst}
+use mathlib.Core.Path.{_≡_, ap, _∙_}
 use mathlib.Core.List.{List}
 use lib.ListN.{length}
 use Rattle.format.specs.Geometry.{Disc}
 use Rattle.format.specs.Layout.{inUse, slotsAt, slotsOf, entries}
 use Rattle.geometry.specs.Meaning.{geo, sectorsOf}
 use Rattle.disc.specs.Meaning.{Inside}
-use Rattle.directory.specs.Meaning.{restOf, Met, Stepped}
-use Rattle.directory.specs.declared.Step.{Step}
+use Rattle.directory.specs.Meaning.{restOf, Met}
+use Rattle.directory.specs.Laws.{stepped-to, stepped-end}
 use Rattle.listing.specs.Laws.{entries-are, entries-few, used-cons, used-over}
 use Rattle.listing.proofs.count_entries.Statement.{statement}
 use Rattle.listing.proofs.count_entries.Tie as tie
@@ -35,9 +35,7 @@ at-turn c = c .before .before .before
 -- the sector that a turn meets
 met : (c : tie.After-next Inv-loop μ-loop) → let l = at-turn c in
     Met (at-start l .args .g) (at-start l .args .image .now) (l .loop .rest) (c .next .given .0 .0 .0) (c .next .given .0 .1 .0)
-met c =
-    let a = at-start (at-turn c) .args in
-    subst (λ (s : Step). Stepped (a .g) (a .image .now) (at-turn c .loop .rest) s) (c .next .given .1) (c .before .before .advance .ensures)
+met c = stepped-to _ _ (at-turn c .loop .rest) (c .next .given .1) (c .before .before .advance .ensures)
 
 -- the entries that were left are its own and those after it
 left : (c : tie.After-next Inv-loop μ-loop) → let l = at-turn c in
@@ -76,7 +74,7 @@ returns c =
     let start = at-start l in
     let a = start .args in
     let d : Disc = sectorsOf (a .g) (a .image .now) in
-    let over = subst (λ (s : Step). Stepped (a .g) (a .image .now) (l .loop .rest) s) (c .enum-told .given .1) (told .advance .ensures) in
+    let over = stepped-end _ _ (l .loop .rest) (c .enum-told .given .1) (told .advance .ensures) in
     let none = ap (λ (ns : List ℕ). length (inUse (slotsOf d ns))) over ∙ used-over d in
     (omega (arith, none, l .loop .inv .1), omega (arith, none, l .loop .inv .1, entries-few (start .pre)))
 

@@ -7,9 +7,10 @@ use mathlib.Core.List.{List, _∷_, _++_, append-assoc}
 use Prim.Native.Nat.{ℕ, _+_}
 use Rattle.lists.specs.Lists.{word}
 use Rattle.format.specs.Geometry.{Disc}
-use Rattle.format.specs.Layout.{discNamePlace, discNameOf, freeCount, usedCount}
+use Rattle.format.specs.Layout.{discNameOffset, discNameOf, freeCount, usedCount}
 use Rattle.geometry.specs.Meaning.{sectorsOf}
-use Rattle.listing.specs.Laws.{nine-at, two-bytes}
+use Rattle.slots.specs.Laws.{nine-at}
+use Rattle.listing.specs.Laws.{two-bytes}
 use Rattle.records.specs.Storing.{stored-as}
 use Rattle.listing.proofs.put_disc.Statement.{statement}
 use Rattle.listing.proofs.put_disc.Tie as tie
@@ -78,7 +79,7 @@ returns c =
     let system = words .before .before in
     let start = at-start system in
     let d : Disc = sectorsOf (start .args .g) (start .args .image .now) in
-    let name = nine-at (start .pre .0) 0 discNamePlace (system .start-of .result + discNamePlace) (omega arith) (omega arith) (omega arith) in
+    let name = nine-at (start .pre .0) 0 discNameOffset (system .start-of .result + discNameOffset) (omega arith) (omega arith) (omega arith) in
     let free = two-bytes (bytes .before .before .before .low .ensures) (bytes .before .before .high .ensures) (words .before .free-count .ensures) in
     let used = two-bytes (bytes .before .low2 .ensures) (bytes .high2 .ensures) (words .used-count .ensures) in
     stored-as

@@ -3,16 +3,15 @@
 use borrow.Author.Needs.{needs}
 use native.Mathlib.Omega.{arith}
 use Prim.Native.Nat.{ℕ}
-use mathlib.Core.Path.{_≡_, ap, sym, _∙_, subst}
+use mathlib.Core.Path.{_≡_, ap, sym, _∙_}
 use mathlib.Core.List.{List, _++_}
 use lib.ListN.{length}
 use Rattle.format.specs.Geometry.{Disc}
 use Rattle.format.specs.Layout.{slotsAt, slotsOf, slots}
 use Rattle.geometry.specs.Meaning.{geo, sectorsOf}
 use Rattle.disc.specs.Meaning.{Inside}
-use Rattle.directory.specs.Meaning.{restOf, Met, Stepped}
-use Rattle.directory.specs.Laws.{slots-none, slots-are}
-use Rattle.directory.specs.declared.Step.{Step}
+use Rattle.directory.specs.Meaning.{restOf, Met}
+use Rattle.directory.specs.Laws.{stepped-to, stepped-end, slots-none, slots-are}
 use Rattle.listing.specs.Meaning.{recordsOf}
 use Rattle.listing.specs.Laws.{records-none, records-cons}
 use Rattle.records.specs.Storing.{Storing, storing-all, storing-step, storing-room, storing-end}
@@ -41,9 +40,7 @@ at-next c = c .before .before
 -- the sector that a turn meets
 met : (c : tie.After-next Inv-loop μ-loop) → let l = at-turn c in
     Met (at-start l .args .g) (at-start l .args .image .now) (l .loop .rest) (c .next .given .0 .0 .0) (c .next .given .0 .1 .0)
-met c =
-    let a = at-start (at-turn c) .args in
-    subst (λ (s : Step). Stepped (a .g) (a .image .now) (at-turn c .loop .rest) s) (c .next .given .1) (c .before .before .advance .ensures)
+met c = stepped-to _ _ (at-turn c .loop .rest) (c .next .given .1) (c .before .before .advance .ensures)
 
 -- its records, and those of the sectors after it
 abbrev own : tie.After-next Inv-loop μ-loop → List ℕ
@@ -90,7 +87,7 @@ returns c =
     let l = told .before in
     let a = at-start l .args in
     let d : Disc = sectorsOf (a .g) (a .image .now) in
-    let over = subst (λ (s : Step). Stepped (a .g) (a .image .now) (l .loop .rest) s) (c .enum-told .given .1) (told .advance .ensures) in
+    let over = stepped-end _ _ (l .loop .rest) (c .enum-told .given .1) (told .advance .ensures) in
     storing-end (l .loop .inv .1) (ap recordsOf (ap (slotsOf d) over ∙ slots-none d) ∙ records-none)
 
 put-sector-records-requires : tie.Need-put-sector-records-requires Inv-loop μ-loop

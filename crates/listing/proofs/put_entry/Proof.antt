@@ -8,7 +8,8 @@ use Prim.Native.Nat.{ℕ, _+_}
 use Rattle.lists.specs.Lists.{word}
 use Rattle.format.specs.Layout.{Slot, nameOf, lengthOf, attributeOf, slotAt}
 use Rattle.geometry.specs.Meaning.{sectorsOf}
-use Rattle.listing.specs.Laws.{name-at, two-bytes}
+use Rattle.slots.specs.Laws.{name-part}
+use Rattle.listing.specs.Laws.{two-bytes}
 use Rattle.records.specs.Storing.{stored-as}
 use Rattle.listing.proofs.put_entry.Statement.{statement}
 use Rattle.listing.proofs.put_entry.Tie as tie
@@ -72,7 +73,7 @@ returns c =
     let sector = slot .before in
     let a = at-start sector .args in
     let s : Slot = slotAt (sectorsOf (a .g) (a .image .now)) (a .n .0) (a .i) in
-    let name = name-at (at-start sector .pre .0) (a .n .0) (a .i) (sector .start-of .result + slot .slot-start .result)
+    let name = name-part (at-start sector .pre .0) (a .n .0) (a .i) (sector .start-of .result + slot .slot-start .result)
     (omega arith) (omega arith) (omega (arith, sector .start-of .ensures .at, slot .slot-start .ensures)) in
     let long = two-bytes (bytes .before .low .ensures) (bytes .high .ensures) (read .entry-of .ensures .length-is) in
     let numbers = ap₂ (λ (xs : List ℕ) (x : ℕ). xs ++ x ∷ []) long (read .entry-of .ensures .attribute-is) in

@@ -2,9 +2,10 @@
 -- Assumes nothing.
 use native.Mathlib.Omega.{arith}
 use lib.ListN.{length-set}
+use Rattle.format.specs.Effects.{listing}
 use Rattle.geometry.specs.Meaning.{geo, sectorsOf}
 use Rattle.listing.specs.Laws.{disc-long}
-use Rattle.listing.specs.Whole.{room-disc, room-entries, room-last, same-long, whole}
+use Rattle.listing.specs.Whole.{Ending, room-disc, room-entries, ending}
 use Rattle.listing.proofs.put_listing.Statement.{statement}
 use Rattle.listing.proofs.put_listing.Tie as tie
 
@@ -19,6 +20,13 @@ at-disc c = c .before .before .before
 abbrev at-entries : tie.After-slice-known3 → tie.After-put-entries
 at-entries c = c .before .before
 
+-- all but the last byte is stored
+stored : (c : tie.After-put-entries) → let a = at-start (at-disc (c .before) .before) .args in
+    Ending (listing (geo (a .g)) (sectorsOf (a .g) (a .image .now))) (a .buffer .now) (c .put-entries .last .1 .1 .0) (c .put-entries .result)
+stored c =
+    let disc = at-disc (c .before) in
+    ending _ _ _ (at-start (disc .before) .pre .1) (disc .put-disc .ensures) (c .put-entries .ensures)
+
 put-disc-requires : tie.Need-put-disc-requires
 put-disc-requires c κs =
     let a = at-start c .args in
@@ -32,22 +40,13 @@ put-entries-requires c κs =
     (pre .0, room-entries _ _ _ (pre .1) (disc .put-disc .ensures))
 
 slice-write-buffer : tie.Need-slice-write-buffer
-slice-write-buffer c =
-    let entries = at-entries c in
-    let disc = at-disc (entries .before) in
-    room-last _ _ _ (at-start (disc .before) .pre .1) (disc .put-disc .ensures) (entries .put-entries .ensures)
+slice-write-buffer c = stored (at-entries c) .room
 
 same-length : tie.Need-same-length
-same-length c =
-    let entries = at-entries c in
-    let disc = at-disc (entries .before) in
-    simp length-set (same-long _ _ _ (at-start (disc .before) .pre .1) (disc .put-disc .ensures) (entries .put-entries .ensures))
+same-length c = simp length-set (stored (at-entries c) .long)
 
 returns : tie.Need-returns
-returns c =
-    let entries = at-entries c in
-    let disc = at-disc (entries .before) in
-    whole _ _ _ (at-start (disc .before) .pre .1) (disc .put-disc .ensures) (entries .put-entries .ensures)
+returns c = stored (at-entries c) .whole
 
 pub put-listing-spec : {M : Type 1} → statement M
 put-listing-spec =

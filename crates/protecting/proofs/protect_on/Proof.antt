@@ -1,14 +1,11 @@
 -- `protecting::protect_on` meets its contract.
 -- Assumes nothing.
 use borrow.Author.Needs.{needs}
-use Prim.Native.Nat.{ℕ}
-use mathlib.Core.Path.{sym, ap, _∙_}
-use mathlib.Core.List.{[], _∷_}
-use Rattle.format.specs.Refusals.{ok}
-use Rattle.format.specs.Layout.{attributePlace, slotAt}
-use Rattle.format.specs.Effects.{slotWrite}
+use mathlib.Core.Path.{_≡_}
 use Rattle.geometry.specs.Meaning.{geo, sectorsOf}
 use Rattle.answers.specs.Listed.{refuses-lists, lists-as}
+use Rattle.lookup.specs.declared.Judged.{Judged}
+use Rattle.lookup.specs.Meaning.{entryOn, Judges}
 use Rattle.lookup.specs.Laws.{judged-as}
 use Rattle.protecting.specs.Laws.{protect-refused, protect-done}
 use Rattle.protecting.proofs.protect_on.Statement.{statement}
@@ -27,6 +24,11 @@ at-found c = c .before .before .before .before
 abbrev at-made : tie.After-put-listed → tie.After-with-protection
 at-made c = c .before .before .before .before
 
+-- what `entry_on` gave
+judged : (c : tie.After-entry-on) {r : Judged} → c .entry-on .result ≡ r → let a = at-start c .args in
+    Judges (a .g) (a .image .now) r (entryOn (geo (a .g)) (sectorsOf (a .g) (a .image .now)) (a .name .now))
+judged c e = let a = at-start c .args in judged-as (a .g) (a .image .now) (a .name .now) e (c .entry-on .ensures)
+
 entry-on-requires : tie.Need-entry-on-requires
 entry-on-requires c κs = search needs
 
@@ -42,10 +44,8 @@ enum-known-n c = search needs
 attribute-of-requires : tie.Need-attribute-of-requires
 attribute-of-requires c κs =
     let found = c .before .before in
-    let start = at-start (at-entry found) in
-    let a = start .args in
-    let judged = judged-as (a .g) (a .image .now) (a .name .now) (found .n .given .1) (at-entry found .entry-on .ensures) in
-    (start .pre, judged .1, judged .2)
+    let entry = judged (at-entry found) (found .n .given .1) in
+    (at-start (at-entry found) .pre, entry .1, entry .2)
 
 with-protection-requires : tie.Need-with-protection-requires
 with-protection-requires c κs = search needs
@@ -56,10 +56,8 @@ slice-aggregate-put-listed c = search needs
 put-listed-requires : tie.Need-put-listed-requires
 put-listed-requires c κs =
     let found = at-found (c .before .before .before) in
-    let start = at-start (at-entry found) in
-    let a = start .args in
-    let judged = judged-as (a .g) (a .image .now) (a .name .now) (found .n .given .1) (at-entry found .entry-on .ensures) in
-    (start .pre, judged .1, judged .2, search needs)
+    let entry = judged (at-entry found) (found .n .given .1) in
+    (at-start (at-entry found) .pre, entry .1, entry .2, search needs)
 
 same-length : tie.Need-same-length
 same-length c = search needs
@@ -67,11 +65,7 @@ same-length c = search needs
 returns : tie.Need-returns
 returns c =
     let told = c .before .before in
-    let entry = told .before .before in
-    let a = at-start entry .args in
-    let judged = judged-as (a .g) (a .image .now) (a .name .now) (told .number .given .1) (entry .entry-on .ensures) in
-    refuses-lists (a .g) (a .image .now) (a .list .now) _ _ (c .refused .ensures)
-    (protect-refused (geo (a .g)) (sectorsOf (a .g) (a .image .now)) (a .name .now) (a .on) _ judged)
+    refuses-lists _ _ _ _ _ (c .refused .ensures) (protect-refused _ _ _ _ _ (judged (told .before .before) (told .number .given .1)))
 
 same-length-2 : tie.Need-same-length-2
 same-length-2 c = search needs
@@ -84,13 +78,8 @@ returns-2 c =
     let listed = c .before .before .before .before in
     let made = at-made listed in
     let found = at-found made in
-    let a = at-start (at-entry found) .args in
-    let d = sectorsOf (a .g) (a .image .now) in
-    let judged = judged-as (a .g) (a .image .now) (a .name .now) (found .n .given .1) (at-entry found .entry-on .ensures) in
-    let s = slotAt d (found .n .given .0 .0 .0) (found .n .given .0 .1 .0) in
-    let is = ap (λ (x : ℕ). ok (slotWrite d s attributePlace (x ∷ []) ∷ [])) (sym (made .with-protection .ensures)) in
-    lists-as (a .g) (a .image .now) (a .list .now) (protect-done (geo (a .g)) d (a .name .now) (a .on) _ (judged .0) ∙ is)
-    (listed .put-listed .ensures)
+    let entry = judged (at-entry found) (found .n .given .1) in
+    lists-as _ _ _ (protect-done _ _ _ _ _ _ (entry .0) (made .with-protection .ensures)) (listed .put-listed .ensures)
 
 pub protect-on-spec : {M : Type 1} → statement M
 protect-on-spec =

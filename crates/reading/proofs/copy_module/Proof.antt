@@ -7,6 +7,7 @@ use mathlib.Core.List.{List, _++_}
 use lib.ListN.{length, take, drop, length-take}
 use lib.Seq.{sets, take-nil}
 use borrow.Author.Needs.{needs}
+use Rattle.lists.specs.Stores.{sets-front}
 use Rattle.format.specs.Geometry.{sector}
 use Rattle.format.specs.Modules.{plain}
 use Rattle.geometry.specs.Meaning.{geo, sectorsOf}
@@ -14,7 +15,7 @@ use Rattle.disc.specs.Meaning.{Lies}
 use Rattle.reading.specs.Plain.{laterBytes}
 use Rattle.reading.specs.Meaning.{bytesIn, bodiesOf, fileBodies, bodiesAfter, Followed}
 use Rattle.reading.specs.FileLaws.{file-followed, followed-leads, followed-step, bytes-step, none-follow}
-use Rattle.reading.specs.CopyLaws.{copied-on, copied-long, stored-front, file-bytes}
+use Rattle.reading.specs.CopyLaws.{copied-on, copied-long, file-bytes}
 use Rattle.reading.proofs.copy_module.Statement.{statement}
 use Rattle.reading.proofs.copy_module.Tie as tie
 
@@ -119,7 +120,7 @@ returns c =
     ∙ copied-on (at-first l .copy-part .ensures) (omega arith) rest
     ∙ ap (λ (k : ℕ). sets (a .buffer .now) 0 (take k all)) whole
     ∙ ap (sets (a .buffer .now) 0) bytes
-    ∙ stored-front (a .buffer .now) (bytesIn (plain (fileBodies (a .g) (a .image .now) (a .first .number .0) (a .count))))
+    ∙ sets-front (a .buffer .now) (bytesIn (plain (fileBodies (a .g) (a .image .now) (a .first .number .0) (a .count))))
     (omega (arith, sym (ap length bytes), length-take (a .size) all, start .pre .2))
 
 pub copy-module-spec : {M : Type 1} → statement M

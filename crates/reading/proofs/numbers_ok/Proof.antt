@@ -1,23 +1,22 @@
--- `reading::numbers_ok` meets its contract: by cases on the first test, which decides whether the second is made.
+-- `reading::numbers_ok` meets its contract.
 -- Assumes nothing.
+use borrow.Author.Needs.{needs}
+use borrow.Author.Tests.{not-true, not-false, eq-eqb, ne-eqb}
 use mathlib.Core.Path.{sym, _∙_}
-use mathlib.Core.Logic.{⊎-elim}
-use mathlib.Core.Bool.{true≢false}
-use borrow.Author.Tests.{eq-eqb, ne-eqb}
 use Rattle.reading.proofs.numbers_ok.Statement.{statement}
 use Rattle.reading.proofs.numbers_ok.Tie as tie
 
 returns : tie.Need-returns
-returns c =
-    ⊎-elim (λ w. simp (eq-eqb _ _ (w .0 .taken), sym (w .1) ∙ c .if2 .taken))
-    (λ w. absurd (true≢false (sym (c .if2 .taken) ∙ w .1 ∙ ne-eqb _ _ (w .0 .left))))
-    (c .before .if1 .came)
+returns c = simp (ne-eqb _ _ (c .if1 .taken))
+
+is-page-requires : tie.Need-is-page-requires
+is-page-requires c κs = search needs
 
 returns-2 : tie.Need-returns-2
-returns-2 c =
-    ⊎-elim (λ w. c .if2 .left ∙ simp (eq-eqb _ _ (w .0 .taken), sym (w .1) ∙ c .if2 .left))
-    (λ w. c .if2 .left ∙ simp (ne-eqb _ _ (w .0 .left)))
-    (c .before .if1 .came)
+returns-2 c = simp (eq-eqb _ _ (c .before .before .if1 .left), sym (c .before .is-page .ensures) ∙ not-true _ (c .if2 .taken))
+
+returns-3 : tie.Need-returns-3
+returns-3 c = simp (eq-eqb _ _ (c .before .before .if1 .left), sym (c .before .is-page .ensures) ∙ not-false _ (c .if2 .left))
 
 pub numbers-ok-spec : {M : Type 1} → statement M
-numbers-ok-spec = tie.close (tie.spec returns returns-2)
+numbers-ok-spec = tie.close (tie.spec returns is-page-requires returns-2 returns-3)

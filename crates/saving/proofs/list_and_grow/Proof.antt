@@ -2,23 +2,42 @@
 -- Assumes nothing.
 use borrow.Author.Needs.{needs}
 use native.Mathlib.Omega.{arith}
-use Rattle.format.specs.Modules.{Module}
-use Rattle.modules.specs.Meaning.{moduleOf}
+use Prim.Native.Nat.{_+_, _≤_}
+use lib.ListN.{length}
+use Rattle.format.specs.Writes.{listSize}
 use Rattle.geometry.specs.Laws.{image-kept}
 use Rattle.saving.specs.Listing.{few-sectors, walks, grown-short, grown-listed}
 use Rattle.saving.proofs.list_and_grow.Statement.{statement}
 use Rattle.saving.proofs.list_and_grow.Tie as tie
 
+-- the places that the answers go back to
+abbrev at-start : tie.After-sectors-for → tie.Start
+at-start c = c .before .before .before .before
+
+abbrev at-count : tie.Else1 → tie.After-sectors-for
+at-count c = c .before .before
+
+abbrev at-saved : tie.After-put-grown-arg2 → tie.After-save-and-grow
+at-saved c = c .before .before .before .before .before .before
+
+abbrev at-system : tie.After-save-and-grow → tie.After-system-of
+at-system c = c .before .before
+
+abbrev at-room : tie.After-system-of → tie.Else1
+at-room c = c .before .before
+
+-- the lent list has room
+room : (c : tie.Else1) → listSize (at-count c .sectors-for .result + 3) ≤ length (at-start (at-count c) .args .list .now)
+room c = omega (arith, c .if1 .left, c .before .list-size .ensures)
+
 sectors-for-requires : tie.Need-sectors-for-requires
 sectors-for-requires c κs = search needs
 
 add-list-size : tie.Need-add-list-size
-add-list-size c =
-    omega (arith, c .sectors-for .ensures, few-sectors (c .before .before .before .before .pre .0))
+add-list-size c = omega (arith, c .sectors-for .ensures, few-sectors (at-start c .pre .0))
 
 list-size-requires : tie.Need-list-size-requires
-list-size-requires c κs =
-    omega (arith, c .sectors-for .ensures, few-sectors (c .before .before .before .before .pre .0))
+list-size-requires c κs = omega (arith, c .sectors-for .ensures, few-sectors (at-start c .pre .0))
 
 refused-requires : tie.Need-refused-requires
 refused-requires c κs = search needs
@@ -27,10 +46,8 @@ returns : tie.Need-returns
 returns c =
     let tested = c .before in
     let counted = tested .before .before in
-    let start = counted .before .before .before .before in
-    let a = start .args in
-    let m : Module = moduleOf (a .m) (a .sheet .now) in
-    grown-short (a .name .bytes) m (start .pre .0) (a .list .now) (c .refused .ensures) (start .pre .1)
+    let start = at-start counted in
+    grown-short (start .args .name .bytes) _ (start .pre .0) (start .args .list .now) (c .refused .ensures) (start .pre .1)
     (omega (arith, tested .if1 .taken, tested .before .list-size .ensures, counted .sectors-for .ensures))
 
 system-of-requires : tie.Need-system-of-requires
@@ -41,23 +58,16 @@ save-and-grow-requires c κs = search needs
 
 put-grown-requires : tie.Need-put-grown-requires
 put-grown-requires c κs =
-    let saved = c .before .before .before .before .before .before in
-    let found = saved .before .before in
-    let tested = found .before .before in
-    let counted = tested .before .before in
-    let start = counted .before .before .before .before in
-    let a = start .args in
-    let m : Module = moduleOf (a .m) (a .sheet .now) in
-    let first = found .system-of .result .pointer in
-    let made = saved .save-and-grow in
-    let count = counted .sectors-for in
-    let leads = found .system-of .ensures .leads in (
-      image-kept (start .pre .0 .image-of) (made .kept .0),
-      walks (a .name .bytes) m (start .pre .0) _ (made .ensures .sectors-are) first leads (count .result) (count .ensures)
-          (found .system-of .ensures .inside),
-      made .ensures .new-inside,
-      made .ensures .last-inside,
-      omega (arith, tested .if1 .left, tested .before .list-size .ensures),
+    let saved = at-saved c in
+    let system = at-system saved .system-of in
+    let counted = at-count (at-room (at-system saved)) in
+    let start = at-start counted in (
+      image-kept (start .pre .0 .image-of) (saved .save-and-grow .kept .0),
+      walks (start .args .name .bytes) _ (start .pre .0) _ (saved .save-and-grow .ensures .sectors-are) (system .result .pointer) (system .ensures .leads) _
+          (counted .sectors-for .ensures) (system .ensures .inside),
+      saved .save-and-grow .ensures .new-inside,
+      saved .save-and-grow .ensures .last-inside,
+      room (at-room (at-system saved)),
     )
 
 same-length : tie.Need-same-length
@@ -68,19 +78,14 @@ same-length-2 c = search needs
 
 returns-2 : tie.Need-returns-2
 returns-2 c =
-    let saved = c .before .before .before .before .before .before .before .before .before in
-    let found = saved .before .before in
-    let tested = found .before .before in
-    let counted = tested .before .before in
-    let start = counted .before .before .before .before in
-    let a = start .args in
-    let m : Module = moduleOf (a .m) (a .sheet .now) in
-    let first = found .system-of .result .pointer in
-    let made = saved .save-and-grow in
-    let count = counted .sectors-for in
-    let leads = found .system-of .ensures .leads in
-    grown-listed (a .name .bytes) m (start .pre .0) _ (made .ensures .sectors-are) first leads (count .result) (count .ensures)
-    (a .list .now) (start .pre .1) (made .ensures .new-is) (made .ensures .last-is) (omega (arith, tested .if1 .left, tested .before .list-size .ensures)) (c .before .before .put-grown .ensures)
+    let listed = c .before .before in
+    let saved = at-saved (listed .before) in
+    let system = at-system saved .system-of in
+    let counted = at-count (at-room (at-system saved)) in
+    let start = at-start counted in
+    grown-listed (start .args .name .bytes) _ (start .pre .0) _ (saved .save-and-grow .ensures .sectors-are) (system .result .pointer)
+    (system .ensures .leads) _ (counted .sectors-for .ensures) (start .args .list .now) (start .pre .1)
+    (saved .save-and-grow .ensures .new-is) (saved .save-and-grow .ensures .last-is) (room (at-room (at-system saved))) (listed .put-grown .ensures)
 
 pub list-and-grow-spec : {M : Type 1} → statement M
 list-and-grow-spec =

@@ -2,24 +2,43 @@
 -- Assumes nothing.
 use borrow.Author.Needs.{needs}
 use native.Mathlib.Omega.{arith}
+use Prim.Native.Nat.{_+_, _≤_}
+use lib.ListN.{length}
 use Rattle.format.specs.Layout.{slotAt}
-use Rattle.format.specs.Modules.{Module}
-use Rattle.modules.specs.Meaning.{moduleOf}
+use Rattle.format.specs.Writes.{listSize}
 use Rattle.geometry.specs.Laws.{image-kept}
 use Rattle.saving.specs.Listing.{few-sectors, walks, open-short, open-listed}
 use Rattle.saving.proofs.list_in_slot.Statement.{statement}
 use Rattle.saving.proofs.list_in_slot.Tie as tie
 
+-- the places that the answers go back to
+abbrev at-start : tie.After-sectors-for → tie.Start
+at-start c = c .before .before .before .before
+
+abbrev at-count : tie.Else1 → tie.After-sectors-for
+at-count c = c .before .before
+
+abbrev at-saved : tie.After-put-saved-arg2 → tie.After-save-in-slot
+at-saved c = c .before .before .before .before
+
+abbrev at-system : tie.After-save-in-slot → tie.After-system-of
+at-system c = c .before .before
+
+abbrev at-room : tie.After-system-of → tie.Else1
+at-room c = c .before .before
+
+-- the lent list has room
+room : (c : tie.Else1) → listSize (at-count c .sectors-for .result + 2) ≤ length (at-start (at-count c) .args .list .now)
+room c = omega (arith, c .if1 .left, c .before .list-size .ensures)
+
 sectors-for-requires : tie.Need-sectors-for-requires
 sectors-for-requires c κs = search needs
 
 add-list-size : tie.Need-add-list-size
-add-list-size c =
-    omega (arith, c .sectors-for .ensures, few-sectors (c .before .before .before .before .pre .0))
+add-list-size c = omega (arith, c .sectors-for .ensures, few-sectors (at-start c .pre .0))
 
 list-size-requires : tie.Need-list-size-requires
-list-size-requires c κs =
-    omega (arith, c .sectors-for .ensures, few-sectors (c .before .before .before .before .pre .0))
+list-size-requires c κs = omega (arith, c .sectors-for .ensures, few-sectors (at-start c .pre .0))
 
 refused-requires : tie.Need-refused-requires
 refused-requires c κs = search needs
@@ -28,10 +47,8 @@ returns : tie.Need-returns
 returns c =
     let tested = c .before in
     let counted = tested .before .before in
-    let start = counted .before .before .before .before in
-    let a = start .args in
-    let m : Module = moduleOf (a .m) (a .sheet .now) in
-    open-short (a .name .bytes) m (start .pre .0) (a .list .now) (c .refused .ensures) _ (start .pre .1)
+    let start = at-start counted in
+    open-short (start .args .name .bytes) _ (start .pre .0) (start .args .list .now) (c .refused .ensures) _ (start .pre .1)
     (omega (arith, tested .if1 .taken, tested .before .list-size .ensures, counted .sectors-for .ensures))
 
 system-of-requires : tie.Need-system-of-requires
@@ -42,22 +59,15 @@ save-in-slot-requires c κs = search needs
 
 put-saved-requires : tie.Need-put-saved-requires
 put-saved-requires c κs =
-    let saved = c .before .before .before .before in
-    let found = saved .before .before in
-    let tested = found .before .before in
-    let counted = tested .before .before in
-    let start = counted .before .before .before .before in
-    let a = start .args in
-    let m : Module = moduleOf (a .m) (a .sheet .now) in
-    let first = found .system-of .result .pointer in
-    let made = saved .save-in-slot in
-    let count = counted .sectors-for in
-    let leads = found .system-of .ensures .leads in (
-      image-kept (start .pre .0 .image-of) (made .kept .0),
-      walks (a .name .bytes) m (start .pre .0) _ (made .ensures) first leads (count .result) (count .ensures)
-          (found .system-of .ensures .inside),
+    let saved = at-saved c in
+    let system = at-system saved .system-of in
+    let counted = at-count (at-room (at-system saved)) in
+    let start = at-start counted in (
+      image-kept (start .pre .0 .image-of) (saved .save-in-slot .kept .0),
+      walks (start .args .name .bytes) _ (start .pre .0) _ (saved .save-in-slot .ensures) (system .result .pointer) (system .ensures .leads) _
+          (counted .sectors-for .ensures) (system .ensures .inside),
       start .pre .2,
-      omega (arith, tested .if1 .left, tested .before .list-size .ensures),
+      room (at-room (at-system saved)),
     )
 
 same-length : tie.Need-same-length
@@ -69,19 +79,13 @@ same-length-2 c = search needs
 returns-2 : tie.Need-returns-2
 unfolding slotAt
 returns-2 c =
-    let saved = c .before .before .before .before .before .before .before in
-    let found = saved .before .before in
-    let tested = found .before .before in
-    let counted = tested .before .before in
-    let start = counted .before .before .before .before in
-    let a = start .args in
-    let m : Module = moduleOf (a .m) (a .sheet .now) in
-    let first = found .system-of .result .pointer in
-    let made = saved .save-in-slot in
-    let count = counted .sectors-for in
-    let leads = found .system-of .ensures .leads in
-    open-listed (a .name .bytes) m (start .pre .0) _ (made .ensures) first leads (count .result) (count .ensures) (a .list .now)
-    _ (start .pre .1) (omega (arith, tested .if1 .left, tested .before .list-size .ensures)) (c .before .before .put-saved .ensures)
+    let listed = c .before .before in
+    let saved = at-saved (listed .before) in
+    let system = at-system saved .system-of in
+    let counted = at-count (at-room (at-system saved)) in
+    let start = at-start counted in
+    open-listed (start .args .name .bytes) _ (start .pre .0) _ (saved .save-in-slot .ensures) (system .result .pointer) (system .ensures .leads) _
+    (counted .sectors-for .ensures) (start .args .list .now) _ (start .pre .1) (room (at-room (at-system saved))) (listed .put-saved .ensures)
 
 pub list-in-slot-spec : {M : Type 1} → statement M
 list-in-slot-spec =

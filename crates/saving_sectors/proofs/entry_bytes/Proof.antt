@@ -15,11 +15,11 @@ use Rattle.saving_sectors.specs.Bytes.{nine-bytes}
 use Rattle.saving_sectors.proofs.entry_bytes.Statement.{statement}
 use Rattle.saving_sectors.proofs.entry_bytes.Tie as tie
 
-place-of-requires : tie.Need-place-of-requires
-place-of-requires c κs = search needs
+address-of-requires : tie.Need-address-of-requires
+address-of-requires c κs = search needs
 
-place-of-requires-2 : tie.Need-place-of-requires-2
-place-of-requires-2 c κs = search needs
+address-of-requires-2 : tie.Need-address-of-requires-2
+address-of-requires-2 c κs = search needs
 
 array-read-t12 : tie.Need-array-read-t12
 array-read-t12 c = search needs
@@ -61,8 +61,8 @@ returns c =
     let nine : List ℕ = a .name .bytes in
     let long : length nine ≡ 9 = search needs in
     let counted : List ℕ = word (a .count) in
-    let from = c .before .place-of in
-    let to = c .place-of2 in
+    let from = c .before .address-of in
+    let to = c .address-of2 in
     ap₂ (λ (xs ys : List ℕ). xs ++ counted ++ ys ++ (to .result .sector ∷ to .result .track ∷ []) ++ attribute false ∷ [])
     (nine-bytes nine long) (ap₂ (λ (s t : ℕ). s ∷ t ∷ []) (from .ensures .1) (from .ensures .0))
     ∙ ap₂ (λ (s t : ℕ). nine ++ counted ++ pairBytes G (meaning (a .first)) ++ (s ∷ t ∷ []) ++ attribute false ∷ []) (to .ensures .1) (to .ensures .0)
@@ -71,8 +71,8 @@ pub entry-bytes-spec : {M : Type 1} → statement M
 entry-bytes-spec =
     tie.close
     (tie.spec
-    place-of-requires
-    place-of-requires-2
+    address-of-requires
+    address-of-requires-2
     array-read-t12
     array-read-t15
     array-read-t18

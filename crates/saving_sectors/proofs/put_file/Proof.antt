@@ -34,16 +34,16 @@ same-length c = search needs
 returns : tie.Need-returns
 unfolding entryBytes
 returns c =
-    let placed = at-module (c .before) .put-module .ensures in
+    let put = at-module (c .before) .put-module .ensures in
     let start = at-start (at-module (c .before)) in
     let file = file-linked (start .pre .0) in
     let long = start .pre .1 ∙ sym (file .1) in
     let head = linked-head _ (file .0) (omega (arith, file .1, sectors-fit (length (start .args .sheet .now)) .some-sector)) in
     record {
-      sectors-are = placed .sectors-are;
-      entry-is = rw (head, ← start .pre .2, ← long, ← placed .last-is) (c .entry-bytes .ensures);
-      next-is = placed .next-is;
-      next-inside = placed .next-inside;
+      sectors-are = put .sectors-are;
+      entry-is = rw (head, ← start .pre .2, ← long, ← put .last-is) (c .entry-bytes .ensures);
+      next-is = put .next-is;
+      next-inside = put .next-inside;
     }
 
 pub put-file-spec : {M : Type 1} → statement M

@@ -88,7 +88,7 @@ put-nth-requires c κs =
       image-kept image (loop .inv .1),
       found-inside (start .args .g) (sector .at .given .1) (loop .inv .2),
       link-inside (start .args .g) (ltb (loop .j + 1) (start .args .count)) (link .result) (next .link-of .result) next-inside (link .ensures),
-      start .pre .0 .allowed,
+      start .pre .0 .is-module,
       omega (arith, start .pre .1, turn .loop-test .taken),
     )
 

@@ -8,7 +8,7 @@ use Rattle.geometry.specs.Laws.{image-kept}
 use Rattle.disc.specs.Laws.{inside}
 use Rattle.modules.specs.Meaning.{moduleOf}
 use Rattle.link_laws.specs.Links.{not-other, found-sector, found-inside}
-use Rattle.saving_sectors.specs.Writes.{growth-none, counts-fit, filed-leads, new-last, saved-grown}
+use Rattle.saving_sectors.specs.Writes.{growth-none, counts-fit, new-file-leads, new-last, saved-grown}
 use Rattle.saving_sectors.proofs.save_and_grow.Statement.{statement}
 use Rattle.saving_sectors.proofs.save_and_grow.Tie as tie
 
@@ -76,7 +76,7 @@ returns : tie.Need-returns
 returns c =
     let file = at-file (c .before) in
     let start = at-start (at-count file) in
-    absurd (not-other (file .put-file .result .next) (filed-leads (start .pre .0) (start .pre .1) (file .put-file .ensures)) (c .match .keys2))
+    absurd (not-other (file .put-file .result .next) (new-file-leads (start .pre .0) (start .pre .1) (file .put-file .ensures)) (c .match .keys2))
 
 link-of-requires : tie.Need-link-of-requires
 link-of-requires c κs =
@@ -138,7 +138,7 @@ returns-2 c =
     let a = start .args in
     let ready = start .pre .0 in
     let found = at-next (rest .before) .next .given .1 in
-    let is = found-sector found (filed-leads ready (start .pre .1) filed) in
+    let is = found-sector found (new-file-leads ready (start .pre .1) filed) in
     record {
       sectors-are =
           saved-grown _ _ _ (moduleOf (a .m) (a .sheet .now)) (ready .savable) (ready .enough) (start .pre .1) _ is _ (last .0) _ (filed .entry-is)

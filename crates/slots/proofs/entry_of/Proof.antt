@@ -3,7 +3,7 @@
 use borrow.Author.Needs.{needs}
 use native.Mathlib.Omega.{arith}
 use mathlib.Core.Path.{sym, _∙_}
-use Rattle.format.specs.Layout.{firstPlace}
+use Rattle.format.specs.Layout.{firstOffset}
 use Rattle.disc.specs.Laws.{inside}
 use Rattle.slots.specs.Fields.{slot-pair}
 use Rattle.slots.proofs.entry_of.Statement.{statement}
@@ -44,7 +44,7 @@ returns c =
     let last = c .before .last-of .ensures in
     record {
       length-is = at-length first .length-of .ensures;
-      first-is = pair ∙ sym (slot-pair _ _ _ _ (first .before .slot-start .ensures) firstPlace (omega arith) _);
+      first-is = pair ∙ sym (slot-pair _ _ _ _ (first .before .slot-start .ensures) firstOffset (omega arith) _);
       last-is = last .0;
       attribute-is = c .attribute-of .ensures;
       first-inside = inside (at-start (at-length first) .pre .0 .valid) (first .pair-of .result) _ _ pair;

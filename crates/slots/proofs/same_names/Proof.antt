@@ -3,14 +3,14 @@
 use borrow.Author.Needs.{needs}
 use native.Mathlib.Omega.{arith}
 use mathlib.Core.Path.{_≡_, ap, ap₂, sym, _∙_}
-use Prim.Native.Nat.{ℕ, _+_, _-_}
+use Prim.Native.Nat.{ℕ, _+_}
 use mathlib.Core.List.{List}
 use lib.ListN.{length, take, drop}
 use Rattle.lists.specs.Lists.{same}
-use Rattle.format.specs.Geometry.{Disc, startOf, sector}
-use Rattle.format.specs.Layout.{slotStart, slotAt, nameOf}
-use Rattle.geometry.specs.Meaning.{geo, sectorsOf, form}
-use Rattle.slots.specs.Laws.{name-front, name-nine, part-cut}
+use Rattle.format.specs.Geometry.{Disc, sector}
+use Rattle.format.specs.Layout.{slotAt, nameOf}
+use Rattle.geometry.specs.Meaning.{sectorsOf}
+use Rattle.slots.specs.Laws.{name-front, name-nine, name-part}
 use Rattle.slots.proofs.same_names.Statement.{statement}
 use Rattle.slots.proofs.same_names.Tie as tie
 
@@ -43,21 +43,21 @@ same-at-requires c κs = search needs
 
 returns : tie.Need-returns
 returns c =
-    let start = c .before .before .before .before .before .before in
+    let own = c .before .before in
+    let slot = own .before in
+    let sector-start = slot .before in
+    let start = sector-start .before .before in
     let a = start .args in
     let d : Disc = sectorsOf (a .g) (a .image .now) in
-    let from : ℕ = c .before .before .before .before .start-of .result + c .before .before .before .slot-start .result in
-    let nine : from + 9 - from ≡ 9 = omega arith in
-    let at : from ≡ startOf (form (a .g)) (geo (a .g)) (a .m .0) + slotStart (a .j) = omega (arith, c .before .before .before .before .start-of .ensures .at, c .before .before .before .slot-start .ensures) in
-    let other : take (from + 9 - from) (drop from (a .image .now)) ≡ nameOf (slotAt d (a .m .0) (a .j)) =
-    ap₂ (λ (L k : ℕ). take L (drop k (a .image .now))) nine at
-    ∙ part-cut (start .pre .0) (a .m .0) (slotStart (a .j)) 9 (omega arith) (omega arith)
-    ∙ sym (name-front d (a .m .0) (a .j)) in
-    let long : length (nameOf (slotAt d (a .m .0) (a .j))) ≡ 9 = name-nine (start .pre .0) (a .m .0) (a .j) (omega arith) (omega arith) in
+    let name : List ℕ = nameOf (slotAt d (a .m .0) (a .j)) in
+    let bytes : List ℕ = sector d (a .n .0) in
+    let from : ℕ = sector-start .start-of .result + slot .slot-start .result in
+    let other = name-part (start .pre .0) (a .m .0) (a .j) from (omega arith) (omega arith) (omega (arith, sector-start .start-of .ensures .at)) in
+    let long : length name ≡ 9 = name-nine (start .pre .0) (a .m .0) (a .j) (omega arith) (omega arith) in
     c .same-at .ensures
-    ∙ ap (λ (xs : List ℕ). same (take (length xs) (drop (c .before .before .slot-start2 .result) (sector d (a .n .0)))) xs) other
-    ∙ ap₂ (λ (L k : ℕ). same (take L (drop k (sector d (a .n .0)))) (nameOf (slotAt d (a .m .0) (a .j)))) long (c .before .before .slot-start2 .ensures)
-    ∙ ap (λ (xs : List ℕ). same xs (nameOf (slotAt d (a .m .0) (a .j)))) (sym (name-front d (a .n .0) (a .i)))
+    ∙ ap (λ (xs : List ℕ). same (take (length xs) (drop (own .slot-start2 .result) bytes)) xs) other
+    ∙ ap₂ (λ (L k : ℕ). same (take L (drop k bytes)) name) long (own .slot-start2 .ensures)
+    ∙ ap (λ (xs : List ℕ). same xs name) (sym (name-front d (a .n .0) (a .i)))
 
 pub same-names-spec : {M : Type 1} → statement M
 same-names-spec =

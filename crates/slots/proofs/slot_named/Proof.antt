@@ -7,11 +7,17 @@ use Prim.Native.Nat.{ℕ}
 use mathlib.Core.List.{List}
 use lib.ListN.{length, take, drop}
 use Rattle.lists.specs.Lists.{same}
-use Rattle.format.specs.Geometry.{sector}
+use Rattle.format.specs.Geometry.{Disc, sector}
 use Rattle.geometry.specs.Meaning.{sectorsOf}
 use Rattle.slots.specs.Laws.{name-front}
 use Rattle.slots.proofs.slot_named.Statement.{statement}
 use Rattle.slots.proofs.slot_named.Tie as tie
+
+abbrev at-start : tie.After-nine2 → tie.Start
+at-start c = c .before .before .before .before
+
+nine : (c : tie.Start) → length (c .args .name .bytes) ≡ 9
+nine c = search needs
 
 slot-start-requires : tie.Need-slot-start-requires
 slot-start-requires c κs = search needs
@@ -21,17 +27,17 @@ slice-aggregate-same-at c = search needs
 
 same-at-requires : tie.Need-same-at-requires
 same-at-requires c κs =
-    let start = c .before .before .before .before in
-    let nine : length (start .args .name .bytes) ≡ 9 = search needs in
-    (start .pre .0, start .pre .1, omega (arith, c .before .slot-start .ensures))
+    let start = at-start c in
+    (start .pre .0, start .pre .1, omega (arith, nine start, c .before .slot-start .ensures))
 
 returns : tie.Need-returns
 returns c =
-    let a = c .before .before .before .before .before .args in
-    let nine : length (a .name .bytes) ≡ 9 = search needs in
-    let part : ℕ → ℕ → List ℕ = λ L k. take L (drop k (sector (sectorsOf (a .g) (a .image .now)) (a .n .0))) in
-    c .same-at .ensures
-    ∙ ap (λ (s : List ℕ). same s (a .name .bytes)) (ap₂ part nine (c .before .before .slot-start .ensures) ∙ sym (name-front (sectorsOf (a .g) (a .image .now)) (a .n .0) (a .i)))
+    let start = at-start (c .before) in
+    let a = start .args in
+    let d : Disc = sectorsOf (a .g) (a .image .now) in
+    let part : ℕ → ℕ → List ℕ = λ L k. take L (drop k (sector d (a .n .0))) in
+    let own = ap₂ part (nine start) (c .before .before .slot-start .ensures) ∙ sym (name-front d (a .n .0) (a .i)) in
+    c .same-at .ensures ∙ ap (λ (s : List ℕ). same s (a .name .bytes)) own
 
 pub slot-named-spec : {M : Type 1} → statement M
 slot-named-spec =

@@ -10,7 +10,7 @@ use lib.Seq.{sets}
 use Rattle.lists.specs.Lists.{word}
 use Rattle.format.specs.Geometry.{Disc, sector}
 use Rattle.format.specs.GeometryLaws.{length-cut, sector-again}
-use Rattle.format.specs.Layout.{freePlace, freeCountPlace}
+use Rattle.format.specs.Layout.{freeOffset, freeCountOffset}
 use Rattle.format.specs.Effects.{systemWrite}
 use Rattle.geometry.specs.Meaning.{geo, sectorsOf, form}
 use Rattle.disc.specs.Meaning.{storedAt}
@@ -24,14 +24,14 @@ at-counts c = c .before .before
 abbrev at-pointer : tie.After-put2 → tie.After-put
 at-pointer c = c .before .before .before .before .before
 
-abbrev at-place : tie.After-put → tie.After-place-of
-at-place c = c .before .before .before
+abbrev at-address : tie.After-put → tie.After-address-of
+at-address c = c .before .before .before
 
-abbrev at-start : tie.After-place-of → tie.Start
+abbrev at-start : tie.After-address-of → tie.Start
 at-start c = c .before .before
 
-place-of-requires : tie.Need-place-of-requires
-place-of-requires c κs = search needs
+address-of-requires : tie.Need-address-of-requires
+address-of-requires c κs = search needs
 
 slice-aggregate-put : tie.Need-slice-aggregate-put
 slice-aggregate-put c = search needs
@@ -65,22 +65,22 @@ unfolding systemWrite
 returns c =
     let counted = at-counts c in
     let pointed = at-pointer counted in
-    let placed = at-place pointed in
-    let start = at-start placed in
+    let addressed = at-address pointed in
+    let start = at-start addressed in
     let a = start .args in
     let d : Disc = sectorsOf (a .g) (a .image .now) in
     let counts : List ℕ = word (a .free) ++ word (a .used) in
-    let place = placed .place-of .ensures in
+    let address = addressed .address-of .ensures in
     counted .put2 .ensures
-    ∙ ap (λ (x : Disc). storedAt x 0 freeCountPlace counts) (pointed .put .ensures)
-    ∙ sector-again d 0 freeCountPlace _ counts (omega (arith, length-cut (form (a .g)) (geo (a .g)) (a .image .now), start .pre .0 .valid .total))
-    ∙ ap₂ (λ (s t : ℕ). set d 0 (sets (sets (sector d 0) freePlace (s ∷ t ∷ [])) freeCountPlace counts)) (place .1) (place .0)
+    ∙ ap (λ (x : Disc). storedAt x 0 freeCountOffset counts) (pointed .put .ensures)
+    ∙ sector-again d 0 freeCountOffset _ counts (omega (arith, length-cut (form (a .g)) (geo (a .g)) (a .image .now), start .pre .0 .valid .total))
+    ∙ ap₂ (λ (s t : ℕ). set d 0 (sets (sets (sector d 0) freeOffset (s ∷ t ∷ [])) freeCountOffset counts)) (address .1) (address .0)
 
 pub put-system-spec : {M : Type 1} → statement M
 put-system-spec =
     tie.close
     (tie.spec
-    place-of-requires
+    address-of-requires
     slice-aggregate-put
     put-requires
     cast-t16

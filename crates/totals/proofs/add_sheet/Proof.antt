@@ -2,12 +2,10 @@
 -- Assumes nothing.
 use Rattle.totals.specs.Laws.{sheetAnswer, other-table, lent-over, sheet-refused, sheet-added}
 use Rattle.totals.specs.Meaning.{Running, Tallies}
-use Rattle.totals.specs.Totals.{within}
 use borrow.Author.Tests.{not-true, not-false}
-use mathlib.Core.Bool.{true}
 use mathlib.Core.List.{List}
 use Prim.Native.Nat.{ℕ}
-use mathlib.Core.Path.{_≡_, sym, ap, subst, _∙_}
+use mathlib.Core.Path.{sym, ap, subst, _∙_}
 use borrow.Author.Needs.{needs}
 use Rattle.totals.proofs.add_sheet.Statement.{statement}
 use Rattle.totals.proofs.add_sheet.Tie as tie
@@ -26,22 +24,18 @@ low c = c .before .before .before
 abbrev copied : tie.After-tally → tie.After-copy
 copied c = c .before .before .before
 
-module _ (c : tie.After-tally) where
-  abbrev lent : tie.Else1
-  lent = table (low (copied c) .before)
+-- where the totals are copied, they are of the right length and none is too large
+running : (c : tie.After-copy) → Running (at-start (table (low c .before)) .args .totals .now)
+running c =
+    let judged = low c .before in
+    record { long = table judged .if1 .left; low = sym (judged .are-within .ensures) ∙ not-false _ (low c .if2 .left) }
 
-  abbrev totals : List ℕ
-  totals = at-start lent .args .totals .now
-
-  abbrev sheet : List ℕ
-  sheet = at-start lent .args .sheet .now
-
-  low-totals : within totals ≡ true
-  low-totals = sym (low (copied c) .before .are-within .ensures) ∙ not-false _ (low (copied c) .if2 .left)
-
-  -- what was told of the sums, told of the totals
-  told : Tallies sheet totals (c .tally .last .0) (c .tally .result)
-  told = subst (λ (ts : List ℕ). Tallies sheet ts (c .tally .last .0) (c .tally .result)) (copied c .copy .ensures) (c .tally .ensures)
+-- what was told of the sums, told of the totals
+told : (c : tie.After-tally) → let a = at-start (table (low (copied c) .before)) .args in
+    Tallies (a .sheet .now) (a .totals .now) (c .tally .last .0) (c .tally .result)
+told c =
+    let sheet : List ℕ = at-start (table (low (copied c) .before)) .args .sheet .now in
+    subst (λ (ts : List ℕ). Tallies sheet ts (c .tally .last .0) (c .tally .result)) (copied c .copy .ensures) (c .tally .ensures)
 
 returns : tie.Need-returns
 returns c = let a = c .before .before .before .args in other-table (a .totals .now) (a .sheet .now) (c .if1 .taken)
@@ -73,12 +67,7 @@ slice-aggregate-tally : tie.Need-slice-aggregate-tally
 slice-aggregate-tally c = search needs
 
 tally-requires : tie.Need-tally-requires
-tally-requires c κs =
-    let copy = c .before .before in
-    let judged = low copy .before in
-    let right = table judged in
-    subst Running (sym (copy .copy .ensures))
-    (record { long = right .if1 .left; low = sym (judged .are-within .ensures) ∙ not-false _ (low copy .if2 .left) })
+tally-requires c κs = let copy = c .before .before in subst Running (sym (copy .copy .ensures)) (running copy)
 
 same-length-2 : tie.Need-same-length-2
 same-length-2 c = search needs
@@ -86,8 +75,8 @@ same-length-2 c = search needs
 returns-3 : tie.Need-returns-3
 returns-3 c =
     let tally = c .before .before in
-    sheet-refused (totals tally) (sheet tally) (lent tally .if1 .left) (low-totals tally)
-    (tally .tally .last .0) (tally .tally .result) (told tally) (c .if3 .taken)
+    let lent = running (copied tally) in
+    sheet-refused _ _ (lent .long) (lent .low) _ _ (told tally) (c .if3 .taken)
 
 slice-aggregate-copy-2 : tie.Need-slice-aggregate-copy-2
 slice-aggregate-copy-2 c = search needs
@@ -103,9 +92,8 @@ returns-4 c =
     let end = c .before .before in
     let done = end .before .before .before in
     let tally = done .before .before in
-    ap (sheetAnswer 0) (end .copy2 .ensures)
-    ∙ sheet-added (totals tally) (sheet tally) (lent tally .if1 .left) (low-totals tally)
-    (tally .tally .last .0) (tally .tally .result) (told tally) (done .if3 .left)
+    let lent = running (copied tally) in
+    ap (sheetAnswer 0) (end .copy2 .ensures) ∙ sheet-added _ _ (lent .long) (lent .low) _ _ (told tally) (done .if3 .left)
 
 pub add-sheet-spec : {M : Type 1} → statement M
 add-sheet-spec =

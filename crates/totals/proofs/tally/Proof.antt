@@ -1,7 +1,7 @@
 -- `totals::tally` meets its contract.
 -- Assumes nothing.
 use Rattle.totals.specs.Laws.{record-bad, tally-on, tally-over, tally-bad, tally-end, refused-tally, done-tally}
-use Rattle.totals.specs.Meaning.{Running, tallied, tooMany}
+use Rattle.totals.specs.Meaning.{Running, Tallies, tallied, tooMany}
 use Rattle.totals.specs.Totals.{creditsOf}
 use Rattle.format.specs.Refusals.{BAD-SHEET}
 use borrow.Author.Tests.{not-true, not-false}
@@ -34,6 +34,18 @@ good c = c .before .before
 abbrev added : tie.After-slice-known2 Inv-loop μ-loop → tie.After-add-record Inv-loop μ-loop
 added c = c .before .before
 
+-- what is left is no rest of a sheet, so the sheet is none
+bad-sheet : (c : tie.At-loop Inv-loop μ-loop) → let a = at-start c .args in
+    none ≡ creditsOf (drop (c .loop .k) (a .sheet .now)) → Tallies (a .sheet .now) (a .sums .now) (c .loop .sums) 12
+bad-sheet c bad =
+    let l = c .loop in
+    refused-tally _ _ _ BAD-SHEET 12 (sym (l .inv .2) ∙ tally-bad _ (l .k) (l .sums) (l .sums) bad) refl
+
+-- what the test of the end says of what is left
+end-as : (c : tie.After-is-end Inv-loop μ-loop) {b : Bool} → c .is-end .result ≡ b → let turn = c .before .before in
+    cond b (some []) none ≡ creditsOf (drop (turn .loop .k) (at-start turn .args .sheet .now))
+end-as c e = ap (λ (b : Bool). cond b (some []) none) (sym e) ∙ c .is-end .ensures
+
 loop-holds : tie.Need-loop-holds Inv-loop μ-loop
 loop-holds c = search needs
 
@@ -50,11 +62,7 @@ returns : tie.Need-returns Inv-loop μ-loop
 returns c =
     let tried = c .before in
     let turn = at-turn tried in
-    let l = turn .loop in
-    let a = at-start turn .args in
-    let s = a .sheet .now in
-    let bad = record-bad s (l .k) (omega arith) (sym (tried .is-record .ensures) ∙ not-true _ (c .if1 .taken)) in
-    refused-tally s (a .sums .now) (l .sums) BAD-SHEET 12 (sym (l .inv .2) ∙ tally-bad s (l .k) (l .sums) (l .sums) bad) refl
+    bad-sheet turn (record-bad _ (turn .loop .k) (omega arith) (sym (tried .is-record .ensures) ∙ not-true _ (c .if1 .taken)))
 
 add-record-requires : tie.Need-add-record-requires Inv-loop μ-loop
 add-record-requires c κs =
@@ -105,25 +113,15 @@ same-length-3 : tie.Need-same-length-3 Inv-loop μ-loop
 same-length-3 c = search needs
 
 returns-3 : tie.Need-returns-3 Inv-loop μ-loop
-returns-3 c =
-    let turn = c .before .before .before in
-    let l = turn .loop in
-    let a = at-start turn .args in
-    let s = a .sheet .now in
-    let no = ap (λ (b : Bool). cond b (some []) none) (sym (not-true (c .before .is-end .result) (c .if3 .taken))) ∙ c .before .is-end .ensures in
-    refused-tally s (a .sums .now) (l .sums) BAD-SHEET 12 (sym (l .inv .2) ∙ tally-bad s (l .k) (l .sums) (l .sums) no) refl
+returns-3 c = bad-sheet (c .before .before .before) (end-as (c .before) (not-true _ (c .if3 .taken)))
 
 same-length-4 : tie.Need-same-length-4 Inv-loop μ-loop
 same-length-4 c = search needs
 
 returns-4 : tie.Need-returns-4 Inv-loop μ-loop
 returns-4 c =
-    let turn = c .before .before .before in
-    let l = turn .loop in
-    let a = at-start turn .args in
-    let s = a .sheet .now in
-    let end = ap (λ (b : Bool). cond b (some []) none) (sym (not-false (c .before .is-end .result) (c .if3 .left))) ∙ c .before .is-end .ensures in
-    done-tally s (a .sums .now) (l .sums) (sym (l .inv .2) ∙ tally-end s (l .k) (l .sums) (l .sums) (l .inv .0) end)
+    let l = c .before .before .before .loop in
+    done-tally _ _ _ (sym (l .inv .2) ∙ tally-end _ (l .k) (l .sums) (l .sums) (l .inv .0) (end-as (c .before) (not-false _ (c .if3 .left))))
 
 pub tally-spec : {M : Type 1} → statement M
 tally-spec =

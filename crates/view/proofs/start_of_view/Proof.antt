@@ -2,7 +2,7 @@
 -- Assumes nothing.
 use mathlib.Core.Path.{_≡_, sym, ap, _∙_}
 use mathlib.Core.Bool.{true}
-use Prim.Native.Nat.{ℕ, _+_}
+use Prim.Native.Nat.{ℕ, _+_, _≤_}
 use native.Mathlib.Omega.{arith}
 use borrow.Author.Needs.{needs}
 use Rattle.format.specs.Geometry.{onDisc, startOf}
@@ -33,6 +33,10 @@ on-disc-at : (c : tie.Then1) → let known = c .before .before in
     let a = at-start (at-sized known) .args in onDisc (geo (geometry-at known)) (a .track) (a .sector) ≡ true
 on-disc-at c = sym (c .before .on-disc .ensures) ∙ c .if1 .taken
 
+-- the sector ends within the largest image
+below : (c : tie.After-sector-at) → c .sector-at .result .start + 256 ≤ 204800
+below c = omega (arith, c .sector-at .ensures .1 .fits, opening (c .before .before .before) .on-image .valid .few-sectors)
+
 geometry-of-requires : tie.Need-geometry-of-requires
 geometry-of-requires c κs = search needs
 
@@ -49,10 +53,10 @@ sector-at-requires : tie.Need-sector-at-requires
 sector-at-requires c κs = (opening (c .before .before) .on-image .valid, on-disc-at c)
 
 add-t14 : tie.Need-add-t14
-add-t14 c = omega (arith, c .sector-at .ensures .1 .fits, opening (c .before .before .before) .on-image .valid .few-sectors)
+add-t14 c = omega (arith, below c)
 
 cast-t15 : tie.Need-cast-t15
-cast-t15 c = omega (arith, c .sector-at .ensures .1 .fits, opening (c .before .before .before) .on-image .valid .few-sectors)
+cast-t15 c = omega (arith, below c)
 
 returns : tie.Need-returns
 returns c =

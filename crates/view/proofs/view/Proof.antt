@@ -1,11 +1,12 @@
 -- `view::view` meets its contract.
 -- Assumes nothing.
-use mathlib.Core.Path.{_≡_, sym, ap, _∙_}
+use mathlib.Core.Path.{_≡_, refl, sym, ap, _∙_}
 use Prim.Native.Nat.{ℕ, _+_, _-_, _≤_}
 use native.Mathlib.Omega.{arith}
 use lib.ListN.{length, take, drop}
 use borrow.Author.Needs.{needs}
-use Rattle.format.specs.Geometry.{Part, bytesOf}
+use Rattle.format.specs.Refusals.{Try, Refusal}
+use Rattle.format.specs.Geometry.{Part}
 use Rattle.format.specs.Formats.{stated-arranged}
 use Rattle.format.specs.Calls.{view, partBy, viewPart}
 use Rattle.geometry.specs.Meaning.{kindOf}
@@ -21,13 +22,14 @@ at-start c = c .before .before
 abbrev at-asked : tie.After-known-told → tie.After-start-of-view
 at-asked c = c .before .before .before
 
+abbrev viewed : tie.Start → Try Refusal Part
+viewed c = let a = c .args in view (kindOf (a .stated)) (a .image .now) (a .track) (a .sector)
+
 -- the part that is shown, which lies in the image
-part : (c : tie.After-known-told) → let a = at-start (at-asked c) .args in
-    let start = c .before .at .given .0 .0 in
-    (partBy (view (kindOf (a .stated)) (a .image .now) (a .track) (a .sector)) ≡ record { at = start; size = 254 }) × (start + 254 ≤ length (a .image .now))
-part c =
-    let a = at-start (at-asked c) .args in
-    view-part _ (a .image .now) (a .track) (a .sector) (stated-arranged _ _ _) _ (sym (at-asked c .start-of-view .ensures) ∙ c .before .at .given .1)
+part : (c : tie.After-known-told) → let start = at-start (at-asked c) in
+    let at = c .before .at .given .0 .0 in
+    (partBy (viewed start) ≡ record { at = at; size = 254 }) × (at + 254 ≤ length (start .args .image .now))
+part c = view-part _ _ _ _ (stated-arranged _ _ _) _ (sym (at-asked c .start-of-view .ensures) ∙ c .before .at .given .1)
 
 start-of-view-requires : tie.Need-start-of-view-requires
 start-of-view-requires c κs = search needs
@@ -66,26 +68,17 @@ returns : tie.Need-returns
 unfolding viewPart
 returns c =
     let known = c .before in
-    let a = at-start (at-asked known) .args in
     let start : ℕ = known .before .at .given .0 .0 in
     let size : start + 254 - start ≡ 254 = omega arith in
-    let shown = sym (part known .0) in
-    record {
-      bytes = ap (λ (k : ℕ). take k (drop start (a .image .now))) size ∙ ap (λ (p : Part). bytesOf p (a .image .now)) shown;
-      address = ap (λ (p : Part). (a .image .ptr .0, p .at + a .image .ptr .1)) shown;
-    }
+    rw (part known .0) (record { bytes = ap (λ (k : ℕ). take k (drop start (at-start (at-asked known) .args .image .now))) size; address = refl })
 
 returns-2 : tie.Need-returns-2
 unfolding viewPart
 returns-2 c =
     let told = c .before in
     let asked = told .before .before in
-    let a = at-start asked .args in
-    let none = refused-part _ _ (sym (asked .start-of-view .ensures) ∙ told .enum-told .given .1) in
-    record {
-      bytes = ap (λ (p : Part). bytesOf p (a .image .now)) (sym none);
-      address = ap (λ (p : Part). (a .image .ptr .0, p .at + a .image .ptr .1)) (sym none);
-    }
+    let none = refused-part (viewed (at-start asked)) _ (sym (asked .start-of-view .ensures) ∙ told .enum-told .given .1) in
+    rw none (record { bytes = refl; address = refl })
 
 pub view-spec : {M : Type 1} → statement M
 view-spec =

@@ -4,12 +4,13 @@
 use borrow.Author.Needs.{needs}
 use native.Mathlib.Omega.{arith}
 use Prim.Native.Nat.{ℕ, _+_, _*_, _≤_}
-use mathlib.Core.Path.{refl, ap}
+use mathlib.Core.Path.{_≡_, refl, ap}
+use mathlib.Core.List.{[]}
 use lib.ListN.{length}
 use Rattle.geometry.specs.Meaning.{geo, sectorsOf}
-use Rattle.disc.specs.Meaning.{Reaches, led}
+use Rattle.disc.specs.Meaning.{meaning, Reaches, led}
 use Rattle.disc.specs.Laws.{reached}
-use Rattle.records.specs.Storing.{Storing, storing-all, storing-step, storing-end, stored-as}
+use Rattle.records.specs.Storing.{Stored, Storing, storing-all, storing-step, storing-end, stored-as}
 use Rattle.format.specs.Writes.{recordOf}
 use Rattle.soundness.specs.CopiedOut.{standing}
 use Rattle.writes.specs.Laws.{walked, walked-ended, walked-none, walked-go}
@@ -34,6 +35,14 @@ at-turn c = c .before .before
 abbrev at-step : tie.After-put-write-arg Inv-loop μ-loop → tie.After-step Inv-loop μ-loop
 at-step c = c .before .before
 
+-- what is stored where nothing is left of the walk
+stored-all : (c : tie.At-loop Inv-loop μ-loop) → let a = at-start (c .before) .args in let d = sectorsOf (a .g) (a .image .now) in
+    walked (geo (a .g)) d (c .loop .left) (led (c .loop .step)) ≡ []
+    → Stored (a .buffer .now) (a .at) (walked (geo (a .g)) d (a .count) (meaning (a .first))) (c .loop .buffer) (c .loop .position)
+stored-all c none =
+    let a = at-start (c .before) .args in
+    stored-as (ap (walked (geo (a .g)) (sectorsOf (a .g) (a .image .now)) (a .count)) (c .before .step-to .ensures .0)) (storing-end (c .loop .inv .0) none)
+
 step-to-requires : tie.Need-step-to-requires Inv-loop μ-loop
 step-to-requires c κs = search needs
 
@@ -49,10 +58,7 @@ same-length c = c .before .before .loop .inv .0 .long
 returns : tie.Need-returns Inv-loop μ-loop
 returns c =
     let loop = c .before .before in
-    let a = at-start (loop .before) .args in
-    let d = sectorsOf (a .g) (a .image .now) in
-    stored-as (ap (walked (geo (a .g)) d (a .count)) (loop .before .step-to .ensures .0))
-    (storing-end (loop .loop .inv .0) (walked-ended (geo (a .g)) d (loop .loop .left) (loop .loop .step) (c .match .keys2)))
+    stored-all loop (walked-ended _ _ (loop .loop .left) (loop .loop .step) (c .match .keys2))
 
 put-write-requires : tie.Need-put-write-requires Inv-loop μ-loop
 put-write-requires c κs =
@@ -98,12 +104,7 @@ same-length-2 : tie.Need-same-length-2 Inv-loop μ-loop
 same-length-2 c = c .before .loop .inv .0 .long
 
 returns-2 : tie.Need-returns-2 Inv-loop μ-loop
-returns-2 c =
-    let loop = c .before in
-    let a = at-start (loop .before) .args in
-    let d = sectorsOf (a .g) (a .image .now) in
-    stored-as (ap (walked (geo (a .g)) d (a .count)) (loop .before .step-to .ensures .0))
-    (storing-end (loop .loop .inv .0) (walked-none (geo (a .g)) d (led (loop .loop .step)) (loop .loop .left) (omega arith)))
+returns-2 c = stored-all (c .before) (walked-none _ _ _ (c .before .loop .left) (omega arith))
 
 pub put-chain-spec : {M : Type 1} → statement M
 put-chain-spec =

@@ -3,7 +3,6 @@
 use borrow.Author.Needs.{needs}
 use mathlib.Core.Path.{refl}
 use mathlib.Core.List.{[], _∷_}
-use Rattle.geometry.specs.Meaning.{geo, sectorsOf}
 use Rattle.records.specs.Storing.{storing-all}
 use Rattle.writes.specs.Laws.{copied-step, copied-end}
 use Rattle.writes.proofs.put_deleted.Statement.{statement}
@@ -44,12 +43,10 @@ returns c =
     let second = at-two third in
     let first = at-one second in
     let a = at-start first .args in
-    let G = geo (a .g) in
-    let d = sectorsOf (a .g) (a .image .now) in
-    let one = copied-step G d (a .home .0) (a .last .0 ∷ 0 ∷ []) (storing-all _ 0 refl) (first .put-numbered .ensures .0) in
-    let two = copied-step G d (a .last .0) (0 ∷ []) one (second .put-numbered2 .ensures .0) in
-    let three = copied-step G d 0 [] two (third .put-numbered3 .ensures .0) in
-    record { done = end .0; stored = copied-end G d three (end .1) }
+    let one = copied-step _ _ (a .home .0) (a .last .0 ∷ 0 ∷ []) (storing-all _ 0 refl) (first .put-numbered .ensures .0) in
+    let two = copied-step _ _ (a .last .0) (0 ∷ []) one (second .put-numbered2 .ensures .0) in
+    let three = copied-step _ _ 0 [] two (third .put-numbered3 .ensures .0) in
+    record { done = end .0; stored = copied-end _ _ three (end .1) }
 
 pub put-deleted-spec : {M : Type 1} → statement M
 put-deleted-spec =

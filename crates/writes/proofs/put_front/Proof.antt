@@ -33,7 +33,7 @@ returns c =
     let a = start .args in
     let long = walked-long (start .pre .0) (a .count) (a .first) (start .pre .1 .inside) in (
       front-stored _ _ 0 (met (geo (a .g)) (sectorsOf (a .g) (a .image .now)) (a .count) (meaning (a .first))) (first .put-numbered .ensures .0) chain,
-      omega (arith, chain .place, first .put-numbered .ensures .1, long, start .pre .1 .long),
+      omega (arith, chain .position, first .put-numbered .ensures .1, long, start .pre .1 .long),
     )
 
 pub put-front-spec : {M : Type 1} → statement M

@@ -2,7 +2,6 @@
 -- Assumes nothing.
 use borrow.Author.Needs.{needs}
 use mathlib.Core.List.{[], _∷_}
-use Rattle.geometry.specs.Meaning.{geo, sectorsOf}
 use Rattle.writes.specs.Meaning.{frontOf}
 use Rattle.writes.specs.Laws.{copied-step, copied-end, front-then}
 use Rattle.writes.proofs.put_grown.Statement.{statement}
@@ -43,12 +42,10 @@ returns c =
     let first = at-new second in
     let front = at-front first in
     let a = at-start front .args in
-    let G = geo (a .g) in
-    let d = sectorsOf (a .g) (a .image .now) in
-    let begun = front-then G d (frontOf (a .g) (a .image .now) (a .first) (a .count)) (a .new .0 ∷ a .last .0 ∷ []) (front .put-front .ensures .0) in
-    let one = copied-step G d (a .new .0) (a .last .0 ∷ []) begun (first .put-numbered .ensures .0) in
-    let two = copied-step G d (a .last .0) [] one (second .put-numbered2 .ensures .0) in
-    record { done = end .0; stored = copied-end G d two (end .1) }
+    let begun = front-then _ _ (frontOf (a .g) (a .image .now) (a .first) (a .count)) (a .new .0 ∷ a .last .0 ∷ []) (front .put-front .ensures .0) in
+    let one = copied-step _ _ (a .new .0) (a .last .0 ∷ []) begun (first .put-numbered .ensures .0) in
+    let two = copied-step _ _ (a .last .0) [] one (second .put-numbered2 .ensures .0) in
+    record { done = end .0; stored = copied-end _ _ two (end .1) }
 
 pub put-grown-spec : {M : Type 1} → statement M
 put-grown-spec =

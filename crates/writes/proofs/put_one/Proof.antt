@@ -3,7 +3,6 @@
 use borrow.Author.Needs.{needs}
 use mathlib.Core.Path.{refl}
 use mathlib.Core.List.{[]}
-use Rattle.geometry.specs.Meaning.{geo, sectorsOf}
 use Rattle.records.specs.Storing.{storing-all}
 use Rattle.writes.specs.Laws.{copied-step, copied-end}
 use Rattle.writes.proofs.put_one.Statement.{statement}
@@ -30,10 +29,8 @@ returns c =
     let end = c .before .before .end-list .ensures in
     let first = at-one (c .before .before) in
     let a = at-start first .args in
-    let G = geo (a .g) in
-    let d = sectorsOf (a .g) (a .image .now) in
-    let one = copied-step G d (a .n .0) [] (storing-all _ 0 refl) (first .put-numbered .ensures .0) in
-    record { done = end .0; stored = copied-end G d one (end .1) }
+    let one = copied-step _ _ (a .n .0) [] (storing-all _ 0 refl) (first .put-numbered .ensures .0) in
+    record { done = end .0; stored = copied-end _ _ one (end .1) }
 
 pub put-one-spec : {M : Type 1} → statement M
 put-one-spec =

@@ -2,7 +2,6 @@
 -- Assumes nothing.
 use borrow.Author.Needs.{needs}
 use mathlib.Core.List.{[], _∷_}
-use Rattle.geometry.specs.Meaning.{geo, sectorsOf}
 use Rattle.writes.specs.Meaning.{frontOf}
 use Rattle.writes.specs.Laws.{copied-step, copied-end, front-then}
 use Rattle.writes.proofs.put_saved.Statement.{statement}
@@ -36,11 +35,9 @@ returns c =
     let last = at-home (c .before .before) in
     let front = at-front last in
     let a = at-start front .args in
-    let G = geo (a .g) in
-    let d = sectorsOf (a .g) (a .image .now) in
-    let begun = front-then G d (frontOf (a .g) (a .image .now) (a .first) (a .count)) (a .home .0 ∷ []) (front .put-front .ensures .0) in
-    let one = copied-step G d (a .home .0) [] begun (last .put-numbered .ensures .0) in
-    record { done = end .0; stored = copied-end G d one (end .1) }
+    let begun = front-then _ _ (frontOf (a .g) (a .image .now) (a .first) (a .count)) (a .home .0 ∷ []) (front .put-front .ensures .0) in
+    let one = copied-step _ _ (a .home .0) [] begun (last .put-numbered .ensures .0) in
+    record { done = end .0; stored = copied-end _ _ one (end .1) }
 
 pub put-saved-spec : {M : Type 1} → statement M
 put-saved-spec =

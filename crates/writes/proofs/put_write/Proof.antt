@@ -10,17 +10,17 @@ use Rattle.writes.proofs.put_write.Statement.{statement}
 use Rattle.writes.proofs.put_write.Tie as tie
 
 -- the places that the answers go back to
-abbrev at-start : tie.After-place-of → tie.Start
+abbrev at-start : tie.After-address-of → tie.Start
 at-start c = c .before .before .before .before
 
-abbrev at-place : tie.After-put-record → tie.After-place-of
-at-place c = c .before .before .before .before
+abbrev at-address : tie.After-put-record → tie.After-address-of
+at-address c = c .before .before .before .before
 
 add-end : tie.Need-add-end
 add-end c = search needs
 
-place-of-requires : tie.Need-place-of-requires
-place-of-requires c κs = search needs
+address-of-requires : tie.Need-address-of-requires
+address-of-requires c κs = search needs
 
 slice-aggregate-put-record : tie.Need-slice-aggregate-put-record
 slice-aggregate-put-record c = search needs
@@ -43,20 +43,20 @@ same-length c = search needs
 returns : tie.Need-returns
 returns c =
     let put = c .before .before in
-    let place = at-place put .place-of .ensures in
-    let start = at-start (at-place put) in
+    let address = at-address put .address-of .ensures in
+    let start = at-start (at-address put) in
     let a = start .args in
     let d = sectorsOf (a .g) (a .image .now) in
     let bytes = whole-sector (start .pre .0) (a .s) (start .pre .1) (a .s .start + 256) refl in
-    let stored = stored-as (record-of (geo (a .g)) d (a .s .number .0) (place .0) (place .1) bytes) (put .put-record .ensures) in
-    (stored, stored .place ∙ ap (λ (k : ℕ). a .at + k) (record-long (start .pre .0) (a .s .number .0) (start .pre .1 .on)))
+    let stored = stored-as (record-of (geo (a .g)) d (a .s .number .0) (address .0) (address .1) bytes) (put .put-record .ensures) in
+    (stored, stored .position ∙ ap (λ (k : ℕ). a .at + k) (record-long (start .pre .0) (a .s .number .0) (start .pre .1 .on)))
 
 pub put-write-spec : {M : Type 1} → statement M
 put-write-spec =
     tie.close
     (tie.spec
     add-end
-    place-of-requires
+    address-of-requires
     slice-aggregate-put-record
     sub-put-record
     part-put-record-start

@@ -1,11 +1,11 @@
--- `disc::place_at` meets its contract.
+-- `disc::address_at` meets its contract.
 -- Assumes nothing.
 use native.Mathlib.Omega.{arith}
 use borrow.Author.Needs.{needs}
 use Rattle.format.specs.GeometryLaws.{track-range, sector-range}
 use Rattle.geometry.specs.Meaning.{geo}
-use Rattle.disc.proofs.place_at.Statement.{statement}
-use Rattle.disc.proofs.place_at.Tie as tie
+use Rattle.disc.proofs.address_at.Statement.{statement}
+use Rattle.disc.proofs.address_at.Tie as tie
 
 div-t3 : tie.Need-div-t3
 div-t3 c = search needs
@@ -31,5 +31,5 @@ cast-t7 c =
 returns : tie.Need-returns
 returns c = search needs
 
-pub place-at-spec : {M : Type 1} → statement M
-place-at-spec = tie.close (tie.spec div-t3 cast-t4 rem-t5 add-t6 cast-t7 returns)
+pub address-at-spec : {M : Type 1} → statement M
+address-at-spec = tie.close (tie.spec div-t3 cast-t4 rem-t5 add-t6 cast-t7 returns)

@@ -1,4 +1,4 @@
--- `fsck_names::later_named` meets its contract. The answer hangs on the sectors that the walk still meets.
+-- `fsck_names::later_repeats` meets its contract. The answer hangs on the sectors that the walk still meets.
 -- Assumes nothing.
 use borrow.Author.Needs.{needs}
 use native.Mathlib.Omega.{arith}
@@ -10,8 +10,8 @@ use Rattle.disc.specs.Meaning.{Inside}
 use Rattle.directory.specs.Meaning.{restOf, entriesLeft, Met}
 use Rattle.directory.specs.Laws.{stepped-to, stepped-end, left-met, left-over}
 use Rattle.fsck_names.specs.Differ.{named, named-over, named-here, named-later}
-use Rattle.fsck_names.proofs.later_named.Statement.{statement}
-use Rattle.fsck_names.proofs.later_named.Tie as tie
+use Rattle.fsck_names.proofs.later_repeats.Statement.{statement}
+use Rattle.fsck_names.proofs.later_repeats.Tie as tie
 
 abbrev Inv-loop : tie.InvT-loop
 Inv-loop image g n i rest₀ rest =
@@ -51,13 +51,13 @@ returns c =
     let loop = advance .before .loop in
     named-over _ (loop .inv .1) (left-over _ _ (loop .rest) (stepped-end _ _ (loop .rest) (c .enum-told .given .1) (advance .advance .ensures)))
 
-sector-named-requires : tie.Need-sector-named-requires Inv-loop μ-loop
-sector-named-requires c κs = let on = met c .on-disc in search needs
+sector-repeats-requires : tie.Need-sector-repeats-requires Inv-loop μ-loop
+sector-repeats-requires c κs = let on = met c .on-disc in search needs
 
 returns-2 : tie.Need-returns-2 Inv-loop μ-loop
 returns-2 c =
     let told = c .before .before in
-    named-here _ (at-loop told .loop .inv .1) _ _ (left-met (met told)) (c .before .sector-named .ensures) (c .if1 .taken)
+    named-here _ (at-loop told .loop .inv .1) _ _ (left-met (met told)) (c .before .sector-repeats .ensures) (c .if1 .taken)
 
 loop-less : tie.Need-loop-less Inv-loop μ-loop
 loop-less c = omega (arith, ap length (met (c .before .before) .next))
@@ -65,10 +65,10 @@ loop-less c = omega (arith, ap length (met (c .before .before) .next))
 loop-again : tie.Need-loop-again Inv-loop μ-loop
 loop-again c =
     let told = c .before .before in
-    (met told .inside, named-later _ (at-loop told .loop .inv .1) _ _ (left-met (met told)) (c .before .sector-named .ensures) (c .if1 .left))
+    (met told .inside, named-later _ (at-loop told .loop .inv .1) _ _ (left-met (met told)) (c .before .sector-repeats .ensures) (c .if1 .left))
 
-pub later-named-spec : {M : Type 1} → statement M
-later-named-spec =
+pub later-repeats-spec : {M : Type 1} → statement M
+later-repeats-spec =
     tie.close
     (tie.spec
     Inv-loop
@@ -78,7 +78,7 @@ later-named-spec =
     enum-known-next
     enum-told
     returns
-    sector-named-requires
+    sector-repeats-requires
     returns-2
     loop-less
     loop-again)
