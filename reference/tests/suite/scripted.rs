@@ -13,7 +13,6 @@ fn scripted(script: &str) -> Output {
         .spawn()
         .expect("the trace program runs");
     let mut input = child.stdin.take().expect("a pipe");
-    let script = script.to_string();
     // The program reads all of it before it prints.
     input
         .write_all(script.as_bytes())
