@@ -1,3 +1,2 @@
 // Demand 3 and its proof: all of this crate is in specs/.
 #![tactic(auto)]
-

@@ -1,3 +1,2 @@
 // Laws of links that code takes apart: all of this crate is in specs/.
 #![tactic(auto)]
-
