@@ -129,13 +129,13 @@ module _ (F : Format) (G : Geometry) where
   commands_image : (image : List ℕ) (cs : List Command) → image_after F image (map (λ c. event_of F (command c)) cs) ≡ run F image cs
   unfolding image_after run happens event_of
   commands_image image [] = refl
-  commands_image image (c ∷ cs) = commands_image _ cs
+  commands_image image (c ∷ cs) = commands_image (step F image c).image cs
 
   commands_ledger : (s : List ℕ) (b : Book) (image : List ℕ) (cs : List Command)
       → ledger_after F G (speaks s b) image (map (λ c. event_of F (command c)) cs) ≡ speaks s (book_after F b image cs)
   unfolding ledger_after book_after happens followed after_command settled event_of
   commands_ledger s b image [] = refl
-  commands_ledger s b image (c ∷ cs) = commands_ledger s _ _ cs
+  commands_ledger s b image (c ∷ cs) = commands_ledger s (entered b c (step F image c).number) (step F image c).image cs
 
 handed_commands : (F : Format) (cs : List Command) → AllHanded cs → AllHandedEvents F (map (λ c. event_of F (command c)) cs)
 unfolding event_of

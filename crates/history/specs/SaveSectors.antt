@@ -38,7 +38,7 @@ pub chain_rest : {G : Geometry} {d : Disc} {p : Next} (ns ms : List ℕ) → 0 <
     → Chain G d (link_of G (sector d (last_or 0 ns))) ms
 chain_rest [] ms h c = absurd (omega arith)
 chain_rest (n ∷ []) ms h (on e c) = c
-chain_rest (n ∷ m ∷ ns) ms h (on e c) = chain_rest (m ∷ ns) ms (omega arith) c
+chain_rest {G = G} {d = d} (n ∷ m ∷ ns) ms h (on e c) = chain_rest {p = link_of G (sector d n)} (m ∷ ns) ms (omega arith) c
 
 -- the system sector's bytes after a save of k sectors
 abbrev pub saved_system : Geometry → Disc → List ℕ → ℕ → List ℕ
