@@ -18,9 +18,8 @@ use lookup::Judged;
 
 // Writes the slot's sector, the file's last sector and the system sector, and gives the file's last sector.
 fn remove(image: &mut [u8], g: Geometry, n: SectorNo, i: usize) -> SectorNo
-    requires* { do
-      let d = sectors_of g image.old
-      ⌜ Image g image.old × (n.0 < g.sectors) × (i < slots_each) × Removable (geo g) d (slot_at d n.0 i) ⌝ }
+    requires { let d = sectors_of g image.old in
+        Image g image.old × (n.0 < g.sectors) × (i < slots_each) × Removable (geo g) d (slot_at d n.0 i) }
     ensures { Removes g image.old image.new (slot_at (sectors_of g image.old) n.0 i) result.0 }
 {
     let entry = slots::entry_of(image, g, n, i);
@@ -44,12 +43,10 @@ fn remove(image: &mut [u8], g: Geometry, n: SectorNo, i: usize) -> SectorNo
 
 // The refusal 10, then the writes of a delete and their list.
 fn delete_entry(image: &mut [u8], g: Geometry, n: SectorNo, i: usize, list: &mut [u8]) -> Filled
-    requires* { do
-      let d = sectors_of g image.old
-      ⌜ Image g image.old × (n.0 < g.sectors) × (i < slots_each) × Removable (geo g) d (slot_at d n.0 i) ⌝ }
-    ensures* { do
-      let d = sectors_of g image.old
-      ⌜ Lists g image.old image.new list.old list.new result (ok (delete_writes (geo g) d (slot_at d n.0 i))) ⌝ }
+    requires { let d = sectors_of g image.old in
+        Image g image.old × (n.0 < g.sectors) × (i < slots_each) × Removable (geo g) d (slot_at d n.0 i) }
+    ensures { let d = sectors_of g image.old in
+        Lists g image.old image.new list.old list.new result (ok (delete_writes (geo g) d (slot_at d n.0 i))) }
 {
     if list.len() < writes::list_size(3) {
         return answers::refused(refusals::SHORT);

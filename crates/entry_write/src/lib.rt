@@ -15,9 +15,8 @@ use geometry::{Geometry, SectorNo};
 // Stores bytes from offset k of slot i of sector n on.
 fn put_in_slot(image: &mut [u8], g: Geometry, n: SectorNo, i: usize, k: usize, bytes: &[u8])
     requires { Image g image.old × (n.0 < g.sectors) × (i < slots_each) × (k + length bytes.now ≤ 16) }
-    ensures* { do
-      let d = sectors_of g image.old
-      ⌜ sectors_of g image.new ≡ written (slot_write d (slot_at d n.0 i) k bytes.now ∷ []) d ⌝ }
+    ensures { let d = sectors_of g image.old in
+        sectors_of g image.new ≡ written (slot_write d (slot_at d n.0 i) k bytes.now ∷ []) d }
 {
     disc::put(image, g, n, slots::slot_start(i) + k, bytes);
 }
@@ -33,10 +32,9 @@ pub fn put_listed(
     list: &mut [u8],
 ) -> Filled
     requires { Image g image.old × (n.0 < g.sectors) × (i < slots_each) × (k + length bytes.now ≤ 16) }
-    ensures* { do
-      let d = sectors_of g image.old
-      ⌜ Lists g image.old image.new list.old list.new result
-          (ok (slot_write d (slot_at d n.0 i) k bytes.now ∷ [])) ⌝ }
+    ensures { let d = sectors_of g image.old in
+        Lists g image.old image.new list.old list.new result
+        (ok (slot_write d (slot_at d n.0 i) k bytes.now ∷ [])) }
 {
     if list.len() < writes::list_size(1) {
         return answers::refused(refusals::SHORT);

@@ -160,7 +160,7 @@ module _ (G : Geometry) (d : Disc) (s : Slot) {m : List ℕ} {w : Followed} {m' 
   unfolding filed
   one {b} h =
       let e : 0 + (length_of s + 0) ≡ length_of s = omega arith in
-      ap (λ (x : Bool). cond x (Good (length_of s)) Bad) (sym h) ∙ sym (simp (e, Bool.and_true, append-nil))
+      ap (λ (x : Bool). cond x (Good (length_of s)) Bad) (sym h) ∙ sym (simp (e, Bool.and-true, append-nil))
 
   wrong : {most : ℕ} → sound_chain ≡ false → FilesMet G d (s ∷ []) most m Bad m'
   wrong h = record { answer = one h; marks = λ z. absurd z; few = tt }
@@ -183,7 +183,7 @@ module _ (G : Geometry) (d : Disc) (s : Slot) {m : List ℕ} {w : Followed} {m' 
     unfolding good_chain file_chain
     chain_is =
         let h = and_true (chain_ends G d (first_of G s)) (fresh m (chain G d (first_of G s))) walk_says.0 in
-        simp (h.0, h.1, ← walk_says.1, ← walk_says.2, Bool.and_true)
+        simp (h.0, h.1, ← walk_says.1, ← walk_says.2, Bool.and-true)
 
     of_length : {most : ℕ} → k ≢ length_of s → FilesMet G d (s ∷ []) most m Bad m'
     of_length h = wrong (chain_is ∙ ap (λ (b : Bool). b && at? (last_of G s) l.0) (ne_eqb k (length_of s) h))

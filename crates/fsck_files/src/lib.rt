@@ -35,9 +35,8 @@ fn leads_to(link: Link, n: SectorNo) -> bool
 // The file of the entry in slot i of sector n: its chain is walked to its end, whatever the entry's length.
 fn file_of(image: &[u8], g: Geometry, n: SectorNo, i: usize, marks: &mut [u8; 800]) -> Files
     requires { Image g image.now × (n.0 < g.sectors) × (i < slots_each) }
-    ensures* { do
-      let d = sectors_of g image.now
-      ⌜ FilesMet (geo g) d (slot_at d n.0 i ∷ []) 800 marks.old result marks.new ⌝ }
+    ensures { let d = sectors_of g image.now in
+        FilesMet (geo g) d (slot_at d n.0 i ∷ []) 800 marks.old result marks.new }
 {
     let first = slots::first_step(image, g, n, i);
     let Followed::Ended { count, last } = fsck_chains::follow(image, g, first, marks) else {
@@ -55,9 +54,8 @@ fn file_of(image: &[u8], g: Geometry, n: SectorNo, i: usize, marks: &mut [u8; 80
 // The files of directory sector n.
 fn sector_files(image: &[u8], g: Geometry, n: SectorNo, marks: &mut [u8; 800]) -> Files
     requires { Image g image.now × (n.0 < g.sectors) }
-    ensures* { do
-      let d = sectors_of g image.now
-      ⌜ FilesMet (geo g) d (in_use (slots_from d n.0 0)) 12000 marks.old result marks.new ⌝ }
+    ensures { let d = sectors_of g image.now in
+        FilesMet (geo g) d (in_use (slots_from d n.0 0)) 12000 marks.old result marks.new }
 {
     let mut sum: usize = 0;
     for i in 0..slots::SLOTS {
@@ -75,9 +73,8 @@ fn sector_files(image: &[u8], g: Geometry, n: SectorNo, marks: &mut [u8; 800]) -
 // The files of the directory.
 pub fn all_files(image: &[u8], g: Geometry, marks: &mut [u8; 800]) -> Files
     requires { Image g image.now }
-    ensures* { do
-      let d = sectors_of g image.now
-      ⌜ FilesMet (geo g) d (entries (geo g) d) 9600000 marks.old result marks.new ⌝ }
+    ensures { let d = sectors_of g image.now in
+        FilesMet (geo g) d (entries (geo g) d) 9600000 marks.old result marks.new }
 {
     let mut sum: usize = 0;
     let mut rest = directory::start(image, g);

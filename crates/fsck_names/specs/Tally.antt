@@ -185,7 +185,7 @@ covers_more : {t : List ℕ} {fs : List Slot} → Covers t fs → (es : List Slo
 unfolding tallied
 covers_more {t} {fs} cov [] = rw append-nil cov
 covers_more {t} {fs} cov (s ∷ es) =
-    let more-counted = covers_more (covers_bumped cov s) es in
+    let more-counted = covers_more {t = bumped (length t) t s} {fs = fs ++ s ∷ []} (covers_bumped cov s) es in
     rw (append_snoc, bumped_long cov s) at more-counted
 
 pub covers_tallied : (size : ℕ) (t : List ℕ) (es : List Slot) {u : List ℕ} → length t ≡ size → 0 < size → u ≡ tallied size t es → Covers u es

@@ -120,9 +120,8 @@ fn tally_names(image: &[u8], g: Geometry, table: &mut [u8; BUCKETS])
 // name, so the names are compared first.
 fn slot_repeats(image: &[u8], g: Geometry, n: SectorNo, i: usize, m: SectorNo, j: usize) -> bool
     requires { Image g image.now × (n.0 < g.sectors) × (i < slots_each) × (m.0 < g.sectors) × (j < slots_each) }
-    ensures* { do
-      let d = sectors_of g image.now
-      ⌜ result ≡ named (slot_at d n.0 i) (in_use (slot_at d m.0 j ∷ [])) ⌝ }
+    ensures { let d = sectors_of g image.now in
+        result ≡ named (slot_at d n.0 i) (in_use (slot_at d m.0 j ∷ [])) }
 {
     if !slots::same_names(image, g, n, i, m, j) {
         return false;
@@ -140,9 +139,8 @@ fn sector_repeats(
     first: usize,
 ) -> bool
     requires { Image g image.now × (n.0 < g.sectors) × (i < slots_each) × (m.0 < g.sectors) × (first ≤ slots_each) }
-    ensures* { do
-      let d = sectors_of g image.now
-      ⌜ result ≡ named (slot_at d n.0 i) (in_use (slots_from d m.0 first)) ⌝ }
+    ensures { let d = sectors_of g image.now in
+        result ≡ named (slot_at d n.0 i) (in_use (slots_from d m.0 first)) }
 {
     for j in first..slots::SLOTS {
         if slot_repeats(image, g, n, i, m, j) {
@@ -155,9 +153,8 @@ fn sector_repeats(
 // The same for one of the directory sectors that a walk still meets.
 fn later_repeats(image: &[u8], g: Geometry, n: SectorNo, i: usize, from: Cursor) -> bool
     requires { Image g image.now × (n.0 < g.sectors) × (i < slots_each) × Inside g from.at }
-    ensures* { do
-      let d = sectors_of g image.now
-      ⌜ result ≡ named (slot_at d n.0 i) (entries_left g image.now from) ⌝ }
+    ensures { let d = sectors_of g image.now in
+        result ≡ named (slot_at d n.0 i) (entries_left g image.now from) }
 {
     let mut rest = from;
     loop {
@@ -183,14 +180,12 @@ fn slot_differs(
     rest: Cursor,
     table: &[u8],
 ) -> bool
-    requires* { do
-      let d = sectors_of g image.now
-      let later = in_use (slots_from d n.0 (i + 1)) ++ entries_left g image.now rest
-      ⌜ Image g image.now × (n.0 < g.sectors) × (i < slots_each) × Inside g rest.at × Covers table.now (in_use (slot_at d n.0 i ∷ []) ++ later) ⌝ }
-    ensures* { do
-      let d = sectors_of g image.now
-      let later = in_use (slots_from d n.0 (i + 1)) ++ entries_left g image.now rest
-      ⌜ result ≡ apart (in_use (slot_at d n.0 i ∷ [])) later ⌝ }
+    requires { let d = sectors_of g image.now in
+        let later = in_use (slots_from d n.0 (i + 1)) ++ entries_left g image.now rest in
+        Image g image.now × (n.0 < g.sectors) × (i < slots_each) × Inside g rest.at × Covers table.now (in_use (slot_at d n.0 i ∷ []) ++ later) }
+    ensures { let d = sectors_of g image.now in
+        let later = in_use (slots_from d n.0 (i + 1)) ++ entries_left g image.now rest in
+        result ≡ apart (in_use (slot_at d n.0 i ∷ [])) later }
 {
     if slots::slot_free(image, g, n, i) {
         return true;
@@ -207,12 +202,10 @@ fn slot_differs(
 
 // The same for each slot of sector n.
 fn sector_differs(image: &[u8], g: Geometry, n: SectorNo, rest: Cursor, table: &[u8]) -> bool
-    requires* { do
-      let here = in_use (slots_from (sectors_of g image.now) n.0 0)
-      ⌜ Image g image.now × (n.0 < g.sectors) × Inside g rest.at × Covers table.now (here ++ entries_left g image.now rest) ⌝ }
-    ensures* { do
-      let here = in_use (slots_from (sectors_of g image.now) n.0 0)
-      ⌜ result ≡ apart here (entries_left g image.now rest) ⌝ }
+    requires { let here = in_use (slots_from (sectors_of g image.now) n.0 0) in
+        Image g image.now × (n.0 < g.sectors) × Inside g rest.at × Covers table.now (here ++ entries_left g image.now rest) }
+    ensures { let here = in_use (slots_from (sectors_of g image.now) n.0 0) in
+        result ≡ apart here (entries_left g image.now rest) }
 {
     for i in 0..slots::SLOTS {
         if !slot_differs(image, g, n, i, rest, table) {

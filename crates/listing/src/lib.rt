@@ -169,9 +169,8 @@ fn put_listing(image: &[u8], g: Geometry, buffer: &mut [u8])
 // The refusals 3 and 10, then the records.
 fn list_on(image: &[u8], g: Geometry, buffer: &mut [u8]) -> Filled
     requires { Image g image.now }
-    ensures* { do
-      let b = buffer.old
-      ⌜ list_answer result buffer.new ≡ list_answer_by b (list_on (geo g) (sectors_of g image.now) (length b)) ⌝ }
+    ensures { let b = buffer.old in
+        list_answer result buffer.new ≡ list_answer_by b (list_on (geo g) (sectors_of g image.now) (length b)) }
 {
     if !fsck::is_sound(image, g) {
         return answers::refused(refusals::UNSOUND);

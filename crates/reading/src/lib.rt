@@ -115,9 +115,8 @@ fn numbers_of(image: &[u8], g: Geometry, n: SectorNo) -> Header
 // The header in sector s, if it is the first of a module that takes `count` sectors.
 fn first_header(image: &[u8], g: Geometry, s: Sector, count: usize) -> Header
     requires { Image g image.now × Lies g s }
-    ensures* { do
-      let b = body_of g image.now s.number.0
-      ⌜ result ≡ cond (headed b count) (numbers_in b) not_plain ⌝ }
+    ensures { let b = body_of g image.now s.number.0 in
+        result ≡ cond (headed b count) (numbers_in b) not_plain }
 {
     let header = numbers_of(image, g, s.number);
     let length = header.length as usize;
@@ -281,9 +280,8 @@ fn read_module(
     buffer: &mut [u8],
 ) -> Reading
     requires { File g image.now first.0 count }
-    ensures* { do
-      let b = buffer.old
-      ⌜ read_answer result buffer.new ≡ read_answer_by b (file_on (plain (file_bodies g image.now first.0 count)) (length b)) ⌝ }
+    ensures { let b = buffer.old in
+        read_answer result buffer.new ≡ read_answer_by b (file_on (plain (file_bodies g image.now first.0 count)) (length b)) }
 {
     let at = disc::sector_of(g, first);
     let header = plain_header(image, g, at, count);
@@ -307,14 +305,12 @@ fn read_module(
 
 // The same for the file of the entry in slot i of sector n. The caller knows that the disc is sound, so the answer 3 never occurs.
 fn read_file(image: &[u8], g: Geometry, n: SectorNo, i: usize, buffer: &mut [u8]) -> Reading
-    requires* { do
-      let d = sectors_of g image.now
-      let s = slot_at d n.0 i
-      ⌜ Image g image.now × (n.0 < g.sectors) × (i < slots_each) × GoodChain (geo g) d s × (1 ≤ length_of s) ⌝ }
-    ensures* { do
-      let d = sectors_of g image.now
-      let b = buffer.old
-      ⌜ read_answer result buffer.new ≡ read_answer_by b (file_on (reading (geo g) d (slot_at d n.0 i)) (length b)) ⌝ }
+    requires { let d = sectors_of g image.now in
+        let s = slot_at d n.0 i in
+        Image g image.now × (n.0 < g.sectors) × (i < slots_each) × GoodChain (geo g) d s × (1 ≤ length_of s) }
+    ensures { let d = sectors_of g image.now in
+        let b = buffer.old in
+        read_answer result buffer.new ≡ read_answer_by b (file_on (reading (geo g) d (slot_at d n.0 i)) (length b)) }
 {
     let entry = slots::entry_of(image, g, n, i);
     let start = entry.first;
@@ -326,9 +322,8 @@ fn read_file(image: &[u8], g: Geometry, n: SectorNo, i: usize, buffer: &mut [u8]
 
 fn read_on(image: &[u8], g: Geometry, name: &[u8], buffer: &mut [u8]) -> Reading
     requires { Image g image.now }
-    ensures* { do
-      let b = buffer.old
-      ⌜ read_answer result buffer.new ≡ read_answer_by b (read_on (geo g) (sectors_of g image.now) name.now (length b)) ⌝ }
+    ensures { let b = buffer.old in
+        read_answer result buffer.new ≡ read_answer_by b (read_on (geo g) (sectors_of g image.now) name.now (length b)) }
 {
     match lookup::entry_on(image, g, name) {
         Judged::Refused(number) => refused(number),

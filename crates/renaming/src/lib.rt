@@ -25,10 +25,9 @@ fn rename_entry(
     list: &mut [u8],
 ) -> Filled
     requires { Image g image.old × (n.0 < g.sectors) × (i < slots_each) × (legal_stored name.bytes ≡ true) }
-    ensures* { do
-      let d = sectors_of g image.old
-      ⌜ Lists g image.old image.new list.old list.new result
-          (rename_to (geo g) d name.bytes (slot_at d n.0 i)) ⌝ }
+    ensures { let d = sectors_of g image.old in
+        Lists g image.old image.new list.old list.new result
+        (rename_to (geo g) d name.bytes (slot_at d n.0 i)) }
 {
     if lookup::is_protected(image, g, n, i) {
         return answers::refused(refusals::PROTECTED);

@@ -37,9 +37,8 @@ pub fn save_name_on(
     sheet: &[u8],
 ) -> Named
     requires { Image g image.now }
-    ensures* { do
-      let d = sectors_of g image.now
-      ⌜ Names result (save_name_on (geo g) d name.now (handed page start 0 sheet.now)) ⌝ }
+    ensures { let d = sectors_of g image.now in
+        Names result (save_name_on (geo g) d name.now (handed page start 0 sheet.now)) }
 {
     let parsed = names::file_name(name);
     if !parsed.ok {
@@ -61,12 +60,10 @@ pub fn save_name_on(
 // Whether the free chain has the sectors of a file of `count` sectors, and one more where no slot is free. `slot` is what
 // `directory::open_slot` found.
 fn has_room(image: &[u8], g: Geometry, slot: Found, count: usize) -> bool
-    requires* { do
-      let d = sectors_of g image.now
-      ⌜ Image g image.now × Finds g image.now slot (open_slot (geo g) d) × (free_count d ≡ length (free (geo g) d)) ⌝ }
-    ensures* { do
-      let d = sectors_of g image.now
-      ⌜ result ≡ leb (count + growth (geo g) d) (length (free (geo g) d)) ⌝ }
+    requires { let d = sectors_of g image.now in
+        Image g image.now × Finds g image.now slot (open_slot (geo g) d) × (free_count d ≡ length (free (geo g) d)) }
+    ensures { let d = sectors_of g image.now in
+        result ≡ leb (count + growth (geo g) d) (length (free (geo g) d)) }
 {
     let free = system::free_count(image, g) as usize;
     match slot {
@@ -114,13 +111,11 @@ fn list_in_slot(
     sheet: &[u8],
     list: &mut [u8],
 ) -> Filled
-    requires* { do
-      let d = sectors_of g image.old
-      ⌜ Ready g image.old (module_of m sheet.now) × (open_slot (geo g) d ≡ some (slot_at d n.0 i)) × (n.0 < g.sectors) × (i < slots_each) ⌝ }
-    ensures* { do
-      let d = sectors_of g image.old
-      ⌜ Lists g image.old image.new list.old list.new result
-          (ok (save_writes (geo g) d name.bytes (module_of m sheet.now))) ⌝ }
+    requires { let d = sectors_of g image.old in
+        Ready g image.old (module_of m sheet.now) × (open_slot (geo g) d ≡ some (slot_at d n.0 i)) × (n.0 < g.sectors) × (i < slots_each) }
+    ensures { let d = sectors_of g image.old in
+        Lists g image.old image.new list.old list.new result
+        (ok (save_writes (geo g) d name.bytes (module_of m sheet.now))) }
 {
     let count = modules::sectors_for(sheet.len());
     if list.len() < writes::list_size(count + 2) {
@@ -165,14 +160,12 @@ pub fn put_save(
     sheet: &[u8],
     list: &mut [u8],
 ) -> Filled
-    requires* { do
-      let d = sectors_of g image.old
-      ⌜ Image g image.old × (sound (geo g) d ≡ true) × IsModule (module_of m sheet.now)
-          × Offers g image.old to (vacancy_on (geo g) d name.bytes (length sheet.now)) ⌝ }
-    ensures* { do
-      let d = sectors_of g image.old
-      ⌜ Lists g image.old image.new list.old list.new result
-          (save_as (geo g) d name.bytes (module_of m sheet.now)) ⌝ }
+    requires { let d = sectors_of g image.old in
+        Image g image.old × (sound (geo g) d ≡ true) × IsModule (module_of m sheet.now)
+        × Offers g image.old to (vacancy_on (geo g) d name.bytes (length sheet.now)) }
+    ensures { let d = sectors_of g image.old in
+        Lists g image.old image.new list.old list.new result
+        (save_as (geo g) d name.bytes (module_of m sheet.now)) }
 {
     match to {
         Vacancy::Refused(number) => answers::refused(number),
@@ -192,10 +185,9 @@ fn save_on(
     list: &mut [u8],
 ) -> Filled
     requires { Image g image.old }
-    ensures* { do
-      let d = sectors_of g image.old
-      ⌜ Lists g image.old image.new list.old list.new result
-          (save_on (geo g) d name.now (handed page start transfer sheet.now)) ⌝ }
+    ensures { let d = sectors_of g image.old in
+        Lists g image.old image.new list.old list.new result
+        (save_on (geo g) d name.now (handed page start transfer sheet.now)) }
 {
     let named = save_name_on(image, g, name, page, start, sheet);
     let number = named.number;

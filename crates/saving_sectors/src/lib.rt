@@ -133,12 +133,10 @@ pub fn save_in_slot(
     m: Numbers,
     sheet: &[u8],
 )
-    requires* { do
-      let d = sectors_of g image.old
-      ⌜ Ready g image.old (module_of m sheet.now) × (open_slot (geo g) d ≡ some (slot_at d n.0 i)) × (n.0 < g.sectors) × (i < slots_each) ⌝ }
-    ensures* { do
-      let d = sectors_of g image.old
-      ⌜ sectors_of g image.new ≡ written (save_writes (geo g) d name.bytes (module_of m sheet.now)) d ⌝ }
+    requires { let d = sectors_of g image.old in
+        Ready g image.old (module_of m sheet.now) × (open_slot (geo g) d ≡ some (slot_at d n.0 i)) × (n.0 < g.sectors) × (i < slots_each) }
+    ensures { let d = sectors_of g image.old in
+        sectors_of g image.new ≡ written (save_writes (geo g) d name.bytes (module_of m sheet.now)) d }
 {
     let sys = system::system_of(image, g);
     let pointer = sys.pointer;
@@ -156,9 +154,8 @@ pub fn save_in_slot(
 // Writes a new directory sector with its first entry, and links it from the last one.
 fn grow(image: &mut [u8], g: Geometry, last: SectorNo, new: SectorNo, entry: &[u8; 16])
     requires { Image g image.old × (last.0 < g.sectors) × (new.0 < g.sectors) }
-    ensures* { do
-      let d = set (sectors_of g image.old) new.0 (with_slot (replicate 256 0) 0 1 entry.now)
-      ⌜ sectors_of g image.new ≡ stored_at d last.0 link_offset (link_bytes (geo g) (go new.0)) ⌝ }
+    ensures { let d = set (sectors_of g image.old) new.0 (with_slot (replicate 256 0) 0 1 entry.now) in
+        sectors_of g image.new ≡ stored_at d last.0 link_offset (link_bytes (geo g) (go new.0)) }
 {
     let in_use = [1u8];
     modules::put_body(image, g, new, Link::End, &in_use, entry);

@@ -76,9 +76,8 @@ pub fn slot_start(i: usize) -> usize
 // Whether the bytes of sector n from offset k on are these.
 pub fn same_at(image: &[u8], g: Geometry, n: SectorNo, k: usize, bytes: &[u8]) -> bool
     requires { Image g image.now × (n.0 < g.sectors) × (k + length bytes.now ≤ 256) }
-    ensures* { do
-      let s = sector (sectors_of g image.now) n.0
-      ⌜ result ≡ same (take (length bytes.now) (drop k s)) bytes.now ⌝ }
+    ensures { let s = sector (sectors_of g image.now) n.0 in
+        result ≡ same (take (length bytes.now) (drop k s)) bytes.now }
 {
     byte_loops::same_at(image, geometry::start_of(g, n) + k, bytes)
 }
@@ -102,9 +101,8 @@ pub fn slot_named(image: &[u8], g: Geometry, n: SectorNo, i: usize, name: Name) 
 // Whether slot i of sector n and slot j of sector m have the same name.
 pub fn same_names(image: &[u8], g: Geometry, n: SectorNo, i: usize, m: SectorNo, j: usize) -> bool
     requires { Image g image.now × (n.0 < g.sectors) × (i < slots_each) × (m.0 < g.sectors) × (j < slots_each) }
-    ensures* { do
-      let d = sectors_of g image.now
-      ⌜ result ≡ same (name_of (slot_at d n.0 i)) (name_of (slot_at d m.0 j)) ⌝ }
+    ensures { let d = sectors_of g image.now in
+        result ≡ same (name_of (slot_at d n.0 i)) (name_of (slot_at d m.0 j)) }
 {
     let start = geometry::start_of(g, m) + slot_start(j);
     let end = start + 9;
@@ -178,9 +176,8 @@ pub fn entry_of(image: &[u8], g: Geometry, n: SectorNo, i: usize) -> Entry
 // Writes the bytes of slot i of directory sector n, and how many entries of the sector are in use.
 pub fn put_slot(image: &mut [u8], g: Geometry, n: SectorNo, i: usize, in_use: u8, bytes: &[u8; 16])
     requires { Image g image.old × (n.0 < g.sectors) × (i < slots_each) }
-    ensures* { do
-      let d = sectors_of g image.old
-      ⌜ sectors_of g image.new ≡ set d n.0 (with_slot (sector d n.0) i in_use bytes.now) ⌝ }
+    ensures { let d = sectors_of g image.old in
+        sectors_of g image.new ≡ set d n.0 (with_slot (sector d n.0) i in_use bytes.now) }
 {
     let count = [in_use];
     disc::put(image, g, n, IN_USE, &count);

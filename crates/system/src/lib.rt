@@ -82,9 +82,8 @@ pub fn system_of(image: &[u8], g: Geometry) -> System
 // Writes another free pointer and other counts.
 pub fn put_system(image: &mut [u8], g: Geometry, pointer: Link, free: usize, used: usize)
     requires { Image g image.old × Inside g pointer }
-    ensures* { do
-      let d = sectors_of g image.old
-      ⌜ sectors_of g image.new ≡ written (system_write (geo g) d (meaning pointer) free used ∷ []) d ⌝ }
+    ensures { let d = sectors_of g image.old in
+        sectors_of g image.new ≡ written (system_write (geo g) d (meaning pointer) free used ∷ []) d }
 {
     let address = disc::address_of(g, pointer);
     let pair = [address.sector, address.track];

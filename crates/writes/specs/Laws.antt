@@ -2,7 +2,7 @@
 -- Assumes nothing.
 use Rattle.std.specs.Prelude.{◌≡◌, ◌⊎◌, ℕ, ◌+◌, ◌*◌, ◌-◌, ◌≤◌, ◌<◌, length, take, drop}
 use Rattle.std.proofs.Math.Path.{refl, ap}
-use Rattle.std.proofs.Common.{sym, ap₂, ◌∙◌, ⊎_elim, arith}
+use Rattle.std.proofs.Common.{sym, ap₂, ◌∙◌, ⊎_elim, inl, inr, arith}
 use denote.Enum.Declared.{tag_of}
 use mathlib.Core.List.{List, [], ◌∷◌, ◌++◌, map, append-nil, append_assoc}
 use Rattle.std.proofs.lemmas.List.Edits.{sets}
@@ -71,6 +71,12 @@ module _ (G : format.Geometry) (d : Disc) where
   walked_ended k End h = ap (records_at G d) (met_stop G d k)
   walked_ended k (To n) h = absurd (⊎_elim (λ (e : case_of (To n) ≡ 0). omega arith) (λ (e : case_of (To n) ≡ 2). omega arith) h)
   walked_ended k Off h = ap (records_at G d) (met_off G d k)
+
+  -- the same of a step that is to no sector
+  pub walked_stops : (k : ℕ) (s : Step) → ((to : Sector) → s ≡ To to → ⊥) → walked k (led s) ≡ []
+  walked_stops k End h = walked_ended k End (inl refl)
+  walked_stops k (To n) h = absurd (h n refl)
+  walked_stops k Off h = walked_ended k Off (inr refl)
 
   pub walked_none : (p : Next) (k : ℕ) → k ≡ 0 → walked k p ≡ []
   unfolding records_at

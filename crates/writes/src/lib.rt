@@ -56,9 +56,8 @@ fn put_chain(
     at: usize,
 ) -> usize
     requires { Image g image.now × Inside g first × (count ≤ 1000) × (at + 259 * count ≤ length buffer.old) }
-    ensures* { do
-      let d = sectors_of g image.now
-      ⌜ Stored buffer.old at (records_at (geo g) d (met (geo g) d count (meaning first))) buffer.new result ⌝ }
+    ensures { let d = sectors_of g image.now in
+        Stored buffer.old at (records_at (geo g) d (met (geo g) d count (meaning first))) buffer.new result }
 {
     let mut step = disc::step_to(g, first);
     let mut left = count;

@@ -1,0 +1,12 @@
+-- `directory::find` meets its contract.
+use borrow.Author.Rules.{rules}
+use mathlib.Core.Path.{sym, ◌∙◌}
+use Rattle.geometry.specs.Meaning.{geo, sectors_of}
+use Rattle.directory.specs.Laws.{find_first}
+use Rattle.directory.proofs.find.Goals as goal
+
+pub returns : goal.returns
+returns c =
+    let a = c.args in
+    let first = find_first (geo a.g) (sectors_of a.g a.image.now) a.name.bytes c.requires.1 in
+    record { slot = c.search.ensures.slot ∙ sym first; within = c.search.ensures.within }

@@ -1,0 +1,12 @@
+-- `directory::open_slot` meets its contract.
+use borrow.Author.Rules.{rules}
+use mathlib.Core.Path.{sym, ◌∙◌}
+use Rattle.geometry.specs.Meaning.{geo, sectors_of}
+use Rattle.directory.specs.Laws.{open_first}
+use Rattle.directory.proofs.open_slot.Goals as goal
+
+pub returns : goal.returns
+returns c =
+    let a = c.args in
+    let first = open_first (geo a.g) (sectors_of a.g a.image.now) in
+    record { slot = c.search.ensures.slot ∙ sym first; within = c.search.ensures.within }

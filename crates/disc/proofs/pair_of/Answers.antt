@@ -1,0 +1,11 @@
+-- `disc::pair_of` meets its contract.
+use mathlib.Core.Path.{ap₂, ◌∙◌}
+use borrow.Author.Rules.{rules}
+use Rattle.format.specs.Geometry.{pointed}
+use Rattle.geometry.specs.Laws.{bytes_at}
+use Rattle.disc.proofs.pair_of.Goals as goal
+
+pub returns : goal.returns
+returns c =
+    let bytes = bytes_at c.requires.0 c.start_of.ensures c.requires.1 c.args.k c.requires.2 in
+    c.pointed_at.ensures ∙ ap₂ (pointed _) bytes.1 bytes.0

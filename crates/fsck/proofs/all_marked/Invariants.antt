@@ -1,0 +1,17 @@
+-- `fsck::all_marked` meets its contract. `least` is the least of 1 and the marks before `n`.
+use borrow.Author.Rules.{rules}
+use Prim.Native.Nat.{◌-◌, ◌≤◌}
+use mathlib.Core.Path.{◌≡◌, refl}
+use mathlib.Core.Bool.{not, ◌&&◌}
+use lib.Dec.{eqb}
+use Rattle.lists.specs.Lists.{all, range}
+use Rattle.fsck_chains.specs.Marks.{clear}
+use Rattle.fsck.specs.Free.{marks_over, marks_next}
+use Rattle.fsck.proofs.all_marked.Given as goal
+
+abbrev pub invariant-loop-n : goal.invariant-loop-n
+invariant-loop-n l =
+    (1 ≤ l.n) × (not (eqb l.least 0) && all (λ k. not (clear l.marks k)) (range l.n (l.total - l.n)) ≡ all (λ k. not (clear l.marks k)) (range 1 (l.total - 1)))
+
+abbrev pub decreases-loop-n : goal.decreases-loop-n
+decreases-loop-n l = l.total - l.n

@@ -1,0 +1,10 @@
+-- `fsck::is_elsewhere` meets its contract.
+use mathlib.Core.Path.{sym, ap}
+use borrow.Author.Rules.{rules}
+use Rattle.format.specs.Check.{elsewhere}
+use Rattle.disc.specs.Meaning.{meaning}
+use Rattle.disc.specs.declared.Link.{Link}
+use Rattle.fsck.proofs.is_elsewhere.Goals as goal
+
+pub returns-in-To : goal.returns-in-To
+returns-in-To c = sym (ap (λ (l : Link). elsewhere (meaning l)) c.in-To.is)

@@ -1,0 +1,10 @@
+-- `fsck_files::leads_to` meets its contract.
+use mathlib.Core.Path.{sym, ap}
+use borrow.Author.Rules.{rules}
+use Rattle.format.specs.Check.{at?}
+use Rattle.disc.specs.Meaning.{meaning}
+use Rattle.disc.specs.declared.Link.{Link}
+use Rattle.fsck_files.proofs.leads_to.Goals as goal
+
+pub returns-in-To : goal.returns-in-To
+returns-in-To c = sym (ap (λ (l : Link). at? (meaning l) c.args.n.0) c.in-To.is)

@@ -1,0 +1,20 @@
+-- `fsck_names::later_repeats` meets its contract. The answer hangs on the sectors that the walk still meets.
+use borrow.Author.Rules.{rules}
+use native.Mathlib.Omega.{arith}
+use mathlib.Core.Path.{◌≡◌, refl, ap}
+use lib.ListN.{length}
+use Rattle.format.specs.Layout.{slot_at}
+use Rattle.geometry.specs.Meaning.{sectors_of}
+use Rattle.disc.specs.Meaning.{Inside}
+use Rattle.directory.specs.Meaning.{rest_of, entries_left, Met}
+use Rattle.directory.specs.Laws.{stepped_to, stepped_end, left_met, left_over}
+use Rattle.fsck_names.specs.Differ.{named, named_over, named_here, named_later}
+use Rattle.fsck_names.proofs.later_repeats.Given as goal
+
+abbrev pub invariant-loop-m : goal.invariant-loop-m
+invariant-loop-m l =
+    Inside l.g l.rest.at
+    × (named (slot_at (sectors_of l.g l.image) l.n.0 l.i) (entries_left l.g l.image l.rest) ≡ named (slot_at (sectors_of l.g l.image) l.n.0 l.i) (entries_left l.g l.image l.initial.rest))
+
+abbrev pub decreases-loop-m : goal.decreases-loop-m
+decreases-loop-m l = length (rest_of l.g l.image l.rest)

@@ -1,0 +1,33 @@
+-- `fsck_names::slot_differs` meets its contract.
+use mathlib.Core.Path.{◌≡◌, sym, ◌∙◌}
+use mathlib.Core.Bool.{false}
+use borrow.Author.Rules.{rules}
+use Rattle.format.specs.Layout.{free_slot, slot_at}
+use Rattle.geometry.specs.Meaning.{sectors_of}
+use Rattle.fsck_names.specs.Differ.{apart_free, apart_taken, apart_later}
+use Rattle.fsck_names.specs.Tally.{apart_lone}
+use Rattle.fsck_names.proofs.slot_differs.Goals as goal
+use Rattle.fsck_names.proofs.slot_differs.Goals.{Else-slot_free}
+
+-- ---- places: the function's start; where the slot has an entry
+
+used : (c : Else-slot_free) → let a = c.args in free_slot (slot_at (sectors_of a.g a.image.now) a.n.0 a.i) ≡ false
+used c = sym c.slot_free.ensures ∙ c.if-slot_free.false
+
+pub returns-then-slot_free : goal.returns-then-slot_free
+returns-then-slot_free c = apart_free _ _ (sym c.slot_free.ensures ∙ c.if-slot_free.true)
+
+pub slot_bucket-k-requires : goal.slot_bucket-k-requires
+slot_bucket-k-requires c = let some = c.requires.4.some in search rules
+
+pub returns-then-table-k-lt2 : goal.returns-then-table-k-lt2
+returns-then-table-k-lt2 c =
+    let bucket = c.slot_bucket-k.ensures in
+    apart_lone _ _ c.requires.4 (used (goal.at.returns-then-table-k-lt2 c).Else-slot_free) _ bucket.0 bucket.1 c.if-table-k-lt2.true
+
+pub returns-then-sector_repeats : goal.returns-then-sector_repeats
+returns-then-sector_repeats c =
+    apart_taken _ _ _ (used (goal.at.returns-then-sector_repeats c).Else-slot_free) c.sector_repeats.ensures c.if-sector_repeats.true
+
+pub returns : goal.returns
+returns c = apart_later _ _ _ (used (goal.at.returns c).Else-slot_free) c.sector_repeats.ensures c.if-sector_repeats.false c.later_repeats.ensures

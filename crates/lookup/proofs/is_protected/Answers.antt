@@ -1,0 +1,8 @@
+-- `lookup::is_protected` meets its contract.
+use borrow.Author.Rules.{rules}
+use mathlib.Core.Path.{ap, ◌∙◌}
+use Rattle.format.specs.Layout.{is_protected}
+use Rattle.lookup.proofs.is_protected.Goals as goal
+
+pub returns : goal.returns
+returns c = c.is_protected.ensures ∙ ap is_protected c.attribute_of.ensures

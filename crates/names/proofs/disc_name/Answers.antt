@@ -1,0 +1,8 @@
+-- `names::disc_name` meets its contract.
+use borrow.Author.Rules.{rules}
+use Rattle.format.specs.Names.{disc_name}
+use Rattle.names.proofs.disc_name.Goals as goal
+
+pub returns : goal.returns
+unfolding disc_name
+returns c = search rules

@@ -1,0 +1,11 @@
+-- `slots::slot_free` meets its contract.
+use borrow.Author.Rules.{rules}
+use Prim.Native.Nat.{ℕ, ◌+◌}
+use mathlib.Core.Path.{ap₂, ◌∙◌}
+use Rattle.slots.specs.Laws.{free_at}
+use Rattle.slots.proofs.slot_free.Goals as goal
+
+pub returns : goal.returns
+returns c =
+    let at = ap₂ (λ (j k : ℕ). j + k) c.start_of.ensures.at c.slot_start.ensures in
+    c.are_zero.ensures ∙ free_at c.requires.0 c.args.n.0 c.args.i _ c.requires.1 c.requires.2 at
