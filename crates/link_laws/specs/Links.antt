@@ -1,7 +1,7 @@
 -- Laws of links that code takes apart by a match: one that leads to a sector, and one that ends a walk.
 -- Assumes nothing.
 use Rattle.std.specs.Prelude.{◌≡◌, ◌⊎◌, ℕ, ◌<◌, []}
-use Rattle.std.proofs.Common.{sym, ap, ◌∙◌, subst, ⊎_elim, arith}
+use Rattle.std.proofs.Common.{refl, sym, ap, ◌∙◌, subst, ⊎_elim, inl, inr, arith}
 use denote.Enum.Declared.{tag_of}
 use Rattle.format.specs.Geometry as format
 use Rattle.format.specs.Geometry.{go, Disc}
@@ -17,6 +17,12 @@ use Rattle.disc.specs.declared.Link.TheVariants.{End, To, Off}
 -- the number of a link's case, as a match on it tells
 abbrev pub case_of : Link → ℕ
 case_of l = tag_of the_type l
+
+-- a link that leads to no sector is one of the other two, as the `else` of a `let` tells it
+pub case_else : (l : Link) → ((n : SectorNo) → l ≡ To n → ⊥) → (case_of l ≡ 0) ⊎ (case_of l ≡ 2)
+case_else End h = inl refl
+case_else (To n) h = absurd (h n refl)
+case_else Off h = inr refl
 
 -- it is neither of the other two cases
 pub not_other : (l : Link) {n : ℕ} → meaning l ≡ go n → (case_of l ≡ 0) ⊎ (case_of l ≡ 2) → ⊥

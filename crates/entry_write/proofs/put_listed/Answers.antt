@@ -30,7 +30,7 @@ returns-then-list-list_size c =
     listed_short _ c.requires.0 _ (whole (goal.at.returns-then-list-list_size c).Start) c.refused.ensures (omega (arith, c.if-list-list_size.true, c.list_size.ensures))
 
 pub put_one-requires : goal.put_one-requires
-put_one-requires c = (image_kept c.requires.0 c.put_in_slot.kept.0, c.requires.1, omega (arith, c.if-list-list_size.false, c.list_size.ensures))
+put_one-requires c = (image_kept c.requires.0 c.put_in_slot.auto.image, c.requires.1, omega (arith, c.if-list-list_size.false, c.list_size.ensures))
 
 pub returns : goal.returns
 unfolding slot_at

@@ -11,7 +11,7 @@ use Rattle.format.specs.Modules.{Module}
 use Rattle.format.specs.Calls.{read_answer_by}
 use Rattle.geometry.specs.Meaning.{geo, sectors_of}
 use Rattle.disc.specs.Meaning.{meaning}
-use Rattle.link_laws.specs.Links.{found_inside}
+use Rattle.link_laws.specs.Links.{found_inside, case_else}
 use Rattle.reading.specs.Answer.{file_on}
 use Rattle.reading.specs.FileLaws.{entry_leads, entry_file, entry_reading}
 use Rattle.reading.proofs.read_file.Goals as goal
@@ -32,7 +32,7 @@ is_on_disc c = found_inside c.args.g c.in-To.is c.entry_of-entry.ensures.first_i
 pub returns-in_default : goal.returns-in_default
 returns-in_default c =
     let pre = c.requires in
-    absurd (entry_leads pre.0 pre.3 pre.4 c.entry_of-entry.result.first c.entry_of-entry.ensures.first_is c.in_default.in_default-own.keys2)
+    absurd (entry_leads pre.0 pre.3 pre.4 c.entry_of-entry.result.first c.entry_of-entry.ensures.first_is (case_else _ c.in_default.not-To))
 
 pub read_module-requires : goal.read_module-requires
 read_module-requires c =
