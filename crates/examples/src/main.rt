@@ -2,26 +2,23 @@
 #![tactic(auto)]
 
 use geometry::Stated;
-use libc::STDOUT_FILENO;
+use std::io;
+use std::io::Write;
 
 const TRACK: usize = 2560;
 
 // Room for the list of five writes, the most that a command here makes.
 const WRITES: usize = 5 * 259 + 1;
 
-fn main() {
-    sectors_for_lengths();
-    directory_growth();
-    rename_to_itself();
-    views();
+fn main(rt: HostRuntime) -> io::Result<()> {
+    sectors_for_lengths(&rt)?;
+    directory_growth(&rt)?;
+    rename_to_itself(&rt)?;
+    views(&rt)
 }
 
-fn text(bytes: &[u8]) {
-    io::write_all(STDOUT_FILENO, bytes);
-}
-
-fn number(x: u64) {
-    io::print_decimal(STDOUT_FILENO, x);
+fn text(rt: &impl Print, bytes: &[u8]) -> io::Result<()> {
+    io::writer(rt).write_all(bytes)
 }
 
 // Sixteen bits, low byte first.

@@ -1,5 +1,5 @@
-// The calls as C sees them (include/tandos.h). Each is thin: its contract is the equation of document 01's call, and the work is
-// done below. A slice is a pointer and a length.
+// The calls as C sees them (include/tandos.h), for Rattle; the crate tandos_c exports them. Each is thin: its contract is the equation
+// of document 01's call, and the work is done below.
 #![tactic(auto)]
 
 ghost use Rattle.std.specs.Prelude.{◌≡◌};
@@ -26,8 +26,7 @@ pub struct CheckNumbers {
     pub rule: u32,
 }
 
-#[unsafe(no_mangle)]
-pub extern "C" fn tandos_check(image: &[u8], sectors: u32, arrangement: u32) -> CheckNumbers
+pub fn tandos_check(image: &[u8], sectors: u32, arrangement: u32) -> CheckNumbers
     ensures { check_answer result ≡ after_check (stated sectors arrangement) image.now }
 {
     let kind = Stated {
@@ -50,13 +49,7 @@ pub extern "C" fn tandos_check(image: &[u8], sectors: u32, arrangement: u32) -> 
     }
 }
 
-#[unsafe(no_mangle)]
-pub extern "C" fn tandos_list(
-    image: &[u8],
-    sectors: u32,
-    arrangement: u32,
-    buffer: &mut [u8],
-) -> Filled
+pub fn tandos_list(image: &[u8], sectors: u32, arrangement: u32, buffer: &mut [u8]) -> Filled
     ensures { list_answer result buffer.new ≡ after_list (stated sectors arrangement) image.now buffer.old }
 {
     let kind = Stated {
@@ -66,8 +59,7 @@ pub extern "C" fn tandos_list(
     listing::list(image, kind, buffer)
 }
 
-#[unsafe(no_mangle)]
-pub extern "C" fn tandos_read(
+pub fn tandos_read(
     image: &[u8],
     sectors: u32,
     arrangement: u32,
@@ -84,8 +76,7 @@ pub extern "C" fn tandos_read(
     reading::read(image, kind, name, buffer)
 }
 
-#[unsafe(no_mangle)]
-pub extern "C" fn tandos_save(
+pub fn tandos_save(
     image: &mut [u8],
     sectors: u32,
     arrangement: u32,
@@ -106,8 +97,7 @@ pub extern "C" fn tandos_save(
     saving::save(image, kind, name, page, start, transfer, sheet, writes)
 }
 
-#[unsafe(no_mangle)]
-pub extern "C" fn tandos_delete(
+pub fn tandos_delete(
     image: &mut [u8],
     sectors: u32,
     arrangement: u32,
@@ -124,8 +114,7 @@ pub extern "C" fn tandos_delete(
     deleting::delete(image, kind, name, writes)
 }
 
-#[unsafe(no_mangle)]
-pub extern "C" fn tandos_rename(
+pub fn tandos_rename(
     image: &mut [u8],
     sectors: u32,
     arrangement: u32,
@@ -143,8 +132,7 @@ pub extern "C" fn tandos_rename(
     renaming::rename(image, kind, old, new, writes)
 }
 
-#[unsafe(no_mangle)]
-pub extern "C" fn tandos_protect(
+pub fn tandos_protect(
     image: &mut [u8],
     sectors: u32,
     arrangement: u32,
@@ -163,13 +151,7 @@ pub extern "C" fn tandos_protect(
 }
 
 // Writes the sectors of a list of writes.
-#[unsafe(no_mangle)]
-pub extern "C" fn tandos_replay(
-    image: &mut [u8],
-    sectors: u32,
-    arrangement: u32,
-    writes: &[u8],
-) -> u32
+pub fn tandos_replay(image: &mut [u8], sectors: u32, arrangement: u32, writes: &[u8]) -> u32
     ensures { answered result image.new ≡ after_replay (stated sectors arrangement) image.old writes.now }
 {
     let kind = Stated {
@@ -180,8 +162,7 @@ pub extern "C" fn tandos_replay(
 }
 
 // Threads every sector that neither the directory nor a file meets into a new free chain.
-#[unsafe(no_mangle)]
-pub extern "C" fn tandos_repair(image: &mut [u8], sectors: u32, arrangement: u32) -> u32
+pub fn tandos_repair(image: &mut [u8], sectors: u32, arrangement: u32) -> u32
     ensures { answered result image.new ≡ after_repair (stated sectors arrangement) image.old }
 {
     let kind = Stated {
@@ -191,8 +172,7 @@ pub extern "C" fn tandos_repair(image: &mut [u8], sectors: u32, arrangement: u32
     repairing::repair(image, kind)
 }
 
-#[unsafe(no_mangle)]
-pub extern "C" fn tandos_blank(image: &mut [u8], sectors: u32, arrangement: u32, name: &[u8]) -> u32
+pub fn tandos_blank(image: &mut [u8], sectors: u32, arrangement: u32, name: &[u8]) -> u32
     ensures { answered result image.new ≡ after_blank (stated sectors arrangement) image.old name.now }
 {
     let kind = Stated {
@@ -203,8 +183,7 @@ pub extern "C" fn tandos_blank(image: &mut [u8], sectors: u32, arrangement: u32,
 }
 
 // The number of a view with these arguments.
-#[unsafe(no_mangle)]
-pub extern "C" fn tandos_view_number(
+pub fn tandos_view_number(
     image: &[u8],
     sectors: u32,
     arrangement: u32,
@@ -221,8 +200,7 @@ pub extern "C" fn tandos_view_number(
 }
 
 // Where a view with these arguments starts in the image; C adds it to the image's address.
-#[unsafe(no_mangle)]
-pub extern "C" fn tandos_view_start(
+pub fn tandos_view_start(
     image: &[u8],
     sectors: u32,
     arrangement: u32,
@@ -239,8 +217,7 @@ pub extern "C" fn tandos_view_start(
 }
 
 // Adds a sheet to running totals.
-#[unsafe(no_mangle)]
-pub extern "C" fn tandos_add_sheet(totals: &mut [u32], sheet: &[u8]) -> u32
+pub fn tandos_add_sheet(totals: &mut [u32], sheet: &[u8]) -> u32
     ensures { record { number = result; totals = totals.new } ≡ after_sheet totals.old sheet.now }
 {
     totals::add_sheet(totals, sheet)

@@ -1,0 +1,29 @@
+-- `repairing::repair` meets its contract.
+use borrow.Author.Rules.{rules}
+use mathlib.Core.Path.{sym, ◌∙◌}
+use Rattle.format.specs.Geometry.{Geometry, Disc}
+use Rattle.format.specs.Calls.{repair_on, after_repair}
+use Rattle.geometry.specs.Meaning.{kind_of}
+use Rattle.geometry.specs.Laws.{Opened, opened, geometry_wrong}
+use Rattle.answers.specs.Laws.{changed_size, changed_leaves}
+use Rattle.repairing.proofs.repair.Goals as goal
+use Rattle.repairing.proofs.repair.Goals.{In-Of}
+
+opening : (c : In-Of) → let a = c.args in Opened (kind_of a.stated) c.in-Of.g a.image.now
+opening c = opened _ _ _ (sym c.geometry_of.ensures ∙ c.in-Of.is)
+
+pub repair_on-requires : goal.repair_on-requires
+repair_on-requires c = (opening (goal.at.repair_on-requires c).In-Of).on_image
+
+pub returns-in-Wrong : goal.returns-in-Wrong
+unfolding after_repair
+returns-in-Wrong c =
+    let a = c.args in
+    let wrong = geometry_wrong _ _ (sym c.geometry_of.ensures ∙ c.in-Wrong.is) in
+    sym (changed_size _ a.image.now (λ (G : Geometry) (d : Disc). repair_on G d) wrong)
+
+pub returns-in-Of : goal.returns-in-Of
+unfolding after_repair
+returns-in-Of c =
+    let a = c.args in
+    changed_leaves (opening (goal.at.returns-in-Of c).In-Of) (λ (G : Geometry) (d : Disc). repair_on G d) _ _ (search rules) c.repair_on.ensures

@@ -1,0 +1,32 @@
+-- `repairing::repair_on` meets its contract.
+use borrow.Author.Rules.{rules}
+use Rattle.format.specs.Refusals.{UNSOUND}
+use Rattle.format.specs.CallLaws.{repair_refused, repair_done}
+use Rattle.geometry.specs.Meaning.{geo, sectors_of}
+use Rattle.geometry.specs.Laws.{image_kept}
+use Rattle.disc.specs.Laws.{inside}
+use Rattle.fsck.specs.Rules.{stands_broken, stands_good}
+use Rattle.answers.specs.Laws.{refuses_is, refuses_leaves, done_leaves}
+use Rattle.repairing.specs.Laws.{repaired}
+use Rattle.repairing.proofs.repair_on.Goals as goal
+
+-- ---- places: the function's start; where rules 1 to 5 are judged; where they hold; where the sectors are threaded; where the pointer is known
+
+pub returns-in_default : goal.returns-in_default
+returns-in_default c =
+    let a = c.args in
+    let d = sectors_of a.g a.image.now in
+    let low = stands_broken _ _ _ _ c.files_stand.ensures c.in_default.is in
+    refuses_leaves a.g a.image.now _ _ (refuses_is _ UNSOUND (repair_refused (geo a.g) d _ low.is low.some low.few))
+
+pub put_system-requires : goal.put_system-requires
+put_system-requires c =
+    let image = c.requires in
+    (image_kept image c.thread-chain.ensures.kept, inside image.valid c.pointed_at-pointer.result _ _ c.pointed_at-pointer.ensures)
+
+pub returns : goal.returns
+returns c =
+    let a = c.args in
+    let s = stands_good _ _ _ _ c.files_stand.ensures c.in-Holds.is in
+    done_leaves a.g a.image.now _ _ _ (repair_done (geo a.g) (sectors_of a.g a.image.now) s.to5)
+    (repaired c.requires s c.thread-chain.ensures c.pointed_at-pointer.result c.pointed_at-pointer.ensures _ c.put_system.ensures)
