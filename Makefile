@@ -39,13 +39,13 @@ CLI_DEFINES = -D_POSIX_C_SOURCE=200809L -D_XOPEN_SOURCE=700 -DTANDOS_VERSION='"$
 all: build/libtandos.a build/tandos
 
 ifndef RT_LIB
-RT_LIB := target/staticlib/libtandos.a
-# Folders are named too: a file that is removed changes its folder alone.
-RT_SOURCES := crates.txt $(shell find crates -name must-fail -prune -o -print)
+RT_LIB := crates/tandos_c/out/libtandos_c.a
+# Folders are named too: a file that is removed changes its folder alone. A crate's own is not: rt makes its out/ there.
+RT_SOURCES := crates.txt $(shell find crates -mindepth 2 \( -name must-fail -o -name out \) -prune -o -print)
 
-# rt leaves an archive that is up to date as it is; make wants it newer.
+# make wants the archive newer than all of them.
 $(RT_LIB): $(RT_SOURCES)
-	rt staticlib tandos
+	cd crates/tandos_c && rt lib
 	touch $@
 endif
 
