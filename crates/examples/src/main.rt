@@ -17,17 +17,13 @@ fn main(rt: HostRuntime) -> io::Result<()> {
     views(&rt)
 }
 
-fn text(rt: &impl Print, bytes: &[u8]) -> io::Result<()> {
-    io::writer(rt).write_all(bytes)
-}
-
 // Sixteen bits, low byte first.
 fn word(low: u8, high: u8) -> u64 {
     low as u64 + 256 * (high as u64)
 }
 
 // Saves the sheet on a blank disc, and prints its length and the used count of the list.
-fn sectors_taken(sheet: &[u8]) {
+fn sectors_taken(rt: &impl Print, sheet: &[u8]) -> io::Result<()> {
     let mut image = [0u8; TRACK];
     let mut records = [0u8; 64];
     let mut writes = [0u8; WRITES];
@@ -44,30 +40,26 @@ fn sectors_taken(sheet: &[u8]) {
         &mut writes,
     );
     tandos::tandos_list(&image, 10, 0, &mut records);
-    number(sheet.len() as u64);
-    text(b" bytes take ");
-    number(word(records[12], records[13]));
-    text(b" sectors\n");
+    let length = sheet.len();
+    let used = word(records[12], records[13]);
+    println!(rt; "{length} bytes take {used} sectors")
 }
 
 // "L = 1 and 245 take 1; 246 and 498 take 2; 499 takes 3"
-fn sectors_for_lengths() {
+fn sectors_for_lengths(rt: &impl Print) -> io::Result<()> {
     let sheet = [0x5Au8; 499];
-    sectors_taken(&sheet[..1]);
-    sectors_taken(&sheet[..245]);
-    sectors_taken(&sheet[..246]);
-    sectors_taken(&sheet[..498]);
-    sectors_taken(&sheet);
+    sectors_taken(rt, &sheet[..1])?;
+    sectors_taken(rt, &sheet[..245])?;
+    sectors_taken(rt, &sheet[..246])?;
+    sectors_taken(rt, &sheet[..498])?;
+    sectors_taken(rt, &sheet)
 }
 
 // Saves a file of one sector under a name of one letter, and prints the number and how many sectors are free then.
-fn save_letter(image: &mut [u8], letter: u8) {
+fn save_letter(rt: &impl Print, image: &mut [u8], letter: u8) -> io::Result<()> {
     let name = [letter];
     let mut records = [0u8; 512];
     let mut writes = [0u8; WRITES];
-    text(b"save ");
-    text(&name);
-    text(b": ");
     let saved = tandos::tandos_save(
         image,
         10,
@@ -79,39 +71,38 @@ fn save_letter(image: &mut [u8], letter: u8) {
         b"12 trousers",
         &mut writes,
     );
-    number(saved.number as u64);
     tandos::tandos_list(image, 10, 0, &mut records);
-    text(b", free ");
-    number(word(records[10], records[11]));
-    text(b"\n");
+    let file = letter as char;
+    let number = saved.number;
+    let free = word(records[10], records[11]);
+    println!(rt; "save {file}: {number}, free {free}")
 }
 
-fn save_letters(image: &mut [u8]) {
+fn save_letters(rt: &impl Print, image: &mut [u8]) -> io::Result<()> {
     for letter in b'A'..=b'P' {
-        save_letter(image, letter);
+        save_letter(rt, image, letter)?;
     }
+    Ok(())
 }
 
 // "The 15th file needs no directory sector, the 16th one more; after one delete the next save needs none."
-fn directory_growth() {
+fn directory_growth(rt: &impl Print) -> io::Result<()> {
     let mut image = [0u8; 3 * TRACK];
     let mut writes = [0u8; WRITES];
     tandos::tandos_blank(&mut image, 10, 0, b"GROWTH");
-    save_letters(&mut image);
-    text(b"delete C: ");
-    number(tandos::tandos_delete(&mut image, 10, 0, b"C", &mut writes).number as u64);
-    text(b"\n");
-    save_letter(&mut image, b'Q');
+    save_letters(rt, &mut image)?;
+    let number = tandos::tandos_delete(&mut image, 10, 0, b"C", &mut writes).number;
+    println!(rt; "delete C: {number}")?;
+    save_letter(rt, &mut image, b'Q')
 }
 
-// Renames the file THU.PCS to its own name, and prints the number.
-fn rename_thursday(image: &mut [u8], writes: &mut [u8]) {
-    let renamed = tandos::tandos_rename(image, 10, 0, b"THU.PCS", b"THU.PCS", writes);
-    number(renamed.number as u64);
+// Renames the file THU.PCS to its own name, and gives the number.
+fn rename_thursday(image: &mut [u8], writes: &mut [u8]) -> u32 {
+    tandos::tandos_rename(image, 10, 0, b"THU.PCS", b"THU.PCS", writes).number
 }
 
 // "Rename of an unprotected file to its own name gives 5; of a protected one, 6."
-fn rename_to_itself() {
+fn rename_to_itself(rt: &impl Print) -> io::Result<()> {
     let mut image = [0u8; TRACK];
     let mut writes = [0u8; WRITES];
     tandos::tandos_blank(&mut image, 10, 0, b"NAMES");
@@ -126,37 +117,33 @@ fn rename_to_itself() {
         b"7 jackets",
         &mut writes,
     );
-    text(b"rename to its own name: ");
-    rename_thursday(&mut image, &mut writes);
+    let plain = rename_thursday(&mut image, &mut writes);
+    println!(rt; "rename to its own name: {plain}")?;
     tandos::tandos_protect(&mut image, 10, 0, b"THU.PCS", 1, &mut writes);
-    text(b"\nthe same, protected: ");
-    rename_thursday(&mut image, &mut writes);
-    text(b"\n");
+    let protected = rename_thursday(&mut image, &mut writes);
+    println!(rt; "the same, protected: {protected}")
 }
 
 // Prints how many bytes a view of the sector shows, and those that are the disc's name in the system sector.
-fn view_sector(image: &[u8], sector: u32) {
+fn view_sector(rt: &impl Print, image: &[u8], sector: u32) -> io::Result<()> {
     let stated = Stated {
         sectors: 10,
         arrangement: 0,
     };
     let shown = view::view(image, stated, 0, sector);
-    text(b"view of 0/");
-    number(sector as u64);
-    text(b": ");
-    number(shown.len() as u64);
-    text(b" bytes");
-    if 31 <= shown.len() {
-        text(b", ");
-        text(&shown[22..31]);
+    let length = shown.len();
+    print!(rt; "view of 0/{sector}: {length} bytes")?;
+    if 31 <= length {
+        print!(rt; ", ")?;
+        io::writer(rt).write_all(&shown[22..31])?;
     }
-    text(b"\n");
+    println!(rt)
 }
 
 // "shows the 254 bytes after a sector's link where they lie in the image"; "with a refusal .. a view is empty"
-fn views() {
+fn views(rt: &impl Print) -> io::Result<()> {
     let mut image = [0u8; TRACK];
     tandos::tandos_blank(&mut image, 10, 0, b"THURSDAYS");
-    view_sector(&image, 1);
-    view_sector(&image, 11);
+    view_sector(rt, &image, 1)?;
+    view_sector(rt, &image, 11)
 }

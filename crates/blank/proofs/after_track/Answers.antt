@@ -1,8 +1,5 @@
 -- `blank::after_track` meets its contract.
-use borrow.Author.Rules.{rules}
-use native.Mathlib.Omega.{arith}
-use Prim.Native.Nat.{ℕ, ◌+◌, ◌*◌}
-use mathlib.Core.Path.{◌≡◌, refl, ap, ◌∙◌}
+use Rattle.std.proofs.Common.{arith, ℕ, ◌+◌, ◌*◌, ◌≡◌, refl, ap, ◌∙◌}
 use Rattle.geometry.specs.Meaning.{geo}
 use Rattle.passing.specs.Stops.{stop_sector}
 use Rattle.passing.specs.Positions.{passed_first, passed_none}

@@ -1,11 +1,6 @@
 -- `blank::blank` meets its contract.
-use borrow.Author.Rules.{rules}
+use Rattle.std.proofs.Common.{rules, ℕ, ◌≡◌, sym, ap, ◌∙◌, Bool, List, length}
 use borrow.Author.Tests.{not-true, not-false}
-use Prim.Native.Nat.{ℕ}
-use mathlib.Core.Path.{◌≡◌, sym, ap, ◌∙◌}
-use mathlib.Core.Bool.{Bool}
-use mathlib.Core.List.{List}
-use lib.ListN.{length}
 use Rattle.format.specs.Geometry.{flat}
 use Rattle.format.specs.Names.{disc_name}
 use Rattle.format.specs.Effects.{blank_disc}

@@ -1,10 +1,6 @@
 -- `blank::blank_on` meets its contract.
-use borrow.Author.Rules.{rules}
-use native.Mathlib.Omega.{arith}
-use Prim.Native.Nat.{◌-◌}
-use mathlib.Core.Path.{◌≡◌, sym, ap, subst, ◌∙◌}
-use mathlib.Core.List.{[]}
-use lib.ListN.{length, set, replicate, get_or-replicate}
+use Rattle.std.proofs.Common.{rules, arith, ◌-◌, ◌≡◌, sym, ap, subst, ◌∙◌, [], length, set, replicate}
+use lib.ListN.{get_or-replicate}
 use Rattle.geometry.specs.Laws.{each_once}
 use Rattle.format.specs.Geometry.{Disc, sector, sectors, written}
 use Rattle.format.specs.Effects.{chained, blank_free, blank_system, blank_disc}

@@ -1,6 +1,5 @@
 -- `blank::clear` meets its contract.
-use borrow.Author.Rules.{rules}
-use mathlib.Core.Path.{refl, ◌∙◌}
+use Rattle.std.proofs.Common.{refl, ◌∙◌}
 use Rattle.byte_loops.specs.Laws.{fill_whole}
 use Rattle.blank.proofs.clear.Goals as goal
 

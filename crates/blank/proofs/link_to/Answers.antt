@@ -1,10 +1,5 @@
 -- `blank::link_to` meets its contract.
-use borrow.Author.Rules.{rules}
-use native.Mathlib.Omega.{arith}
-use Prim.Native.Nat.{ℕ, ◌%◌}
-use mathlib.Core.Path.{ap, ◌∙◌}
-use mathlib.Core.List.{[], ◌∷◌}
-use lib.ListN.{set}
+use Rattle.std.proofs.Common.{arith, ℕ, ◌%◌, ap, ◌∙◌, [], ◌∷◌, set}
 use Rattle.format.specs.Geometry.{Disc, sector, sector_number}
 use Rattle.format.specs.GeometryLaws.{sector_full}
 use Rattle.format.specs.Layout.{link_offset}

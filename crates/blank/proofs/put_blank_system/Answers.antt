@@ -1,13 +1,8 @@
 -- `blank::put_blank_system` meets its contract: four stores in the one sector.
-use borrow.Author.Rules.{rules}
-use native.Mathlib.Omega.{arith}
-use Prim.Native.Nat.{ℕ, ◌-◌, ◌<◌}
-use mathlib.Core.Path.{◌≡◌, ap, ◌∙◌}
-use mathlib.Core.List.{List, ◌++◌}
-use lib.ListN.{length, set}
+use Rattle.std.proofs.Common.{rules, arith, ℕ, ◌-◌, ◌<◌, ◌≡◌, ap, ◌∙◌, List, ◌++◌, length, set}
 use lib.Seq.{sets}
 use Rattle.lists.specs.Lists.{word}
-use Rattle.format.specs.Geometry.{Disc, sector, sectors}
+use Rattle.format.specs.Geometry.{Disc, sector}
 use Rattle.format.specs.GeometryLaws.{length_cut, sector_again}
 use Rattle.format.specs.Layout.{free_offset, free_count_offset, disc_name_offset, version_offset}
 use Rattle.format.specs.Effects.{version}

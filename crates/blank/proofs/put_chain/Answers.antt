@@ -1,11 +1,5 @@
 -- `blank::put_chain` meets its contract: the writes that are left, written, always give the whole.
-use borrow.Author.Rules.{rules}
-use native.Mathlib.Omega.{arith}
-use native.Mathlib.Nat.{mul-le-mul_left}
-use Prim.Native.Nat.{ℕ, ◌+◌, ◌*◌, ◌-◌, ◌≤◌}
-use mathlib.Core.Path.{◌≡◌, refl, sym, ap, subst, ◌∙◌}
-use mathlib.Core.List.{List}
-use lib.ListN.{length}
+use Rattle.std.proofs.Common.{rules, arith, mul-le-mul_left, ℕ, ◌+◌, ◌*◌, ◌≡◌, refl, sym, ap, subst, ◌∙◌, List, length}
 use Rattle.format.specs.Geometry.{Write, written}
 use Rattle.geometry.specs.Meaning.{geo, sectors_of}
 use Rattle.geometry.specs.Laws.{image_kept}

@@ -1,16 +1,8 @@
 -- `blank::put_track` meets its contract: at each turn the links of the sectors before `here` are written.
-use borrow.Author.Rules.{rules}
-use native.Mathlib.Omega.{arith}
-use Prim.Native.Nat.{ℕ, ◌+◌, ◌*◌, ◌%◌, ◌-◌, ◌≤◌, ◌<◌}
-use mathlib.Core.Path.{◌≡◌, refl, ◌∙◌}
-use lib.ListN.{length, get_or, replicate}
-use Rattle.format.specs.Geometry.{sector, sector_number}
-use Rattle.format.specs.Effects.{body}
-use Rattle.geometry.specs.Meaning.{geo, sectors_of, Valid, Image}
+use Rattle.std.proofs.Common.{◌+◌, ◌*◌, ◌-◌, ◌≤◌, ◌<◌, ◌≡◌, length, get_or}
+use Rattle.geometry.specs.Meaning.{geo}
 use Rattle.passing.specs.Meaning.{Stop}
-use Rattle.passing.specs.Stops.{stop_sector}
-use Rattle.passing.specs.Positions.{next_track, passed_here, here_stop}
-use Rattle.blank.specs.Links.{Linked, linked_none, linked_more, here_bare, linked_here}
+use Rattle.blank.specs.Links.{Linked}
 use Rattle.blank.proofs.put_track.Given as goal
 
 abbrev pub invariant-loop-i : goal.invariant-loop-i

@@ -1,5 +1,4 @@
 -- `blank::put_version` meets its contract.
-use borrow.Author.Rules.{rules}
 use Rattle.format.specs.Effects.{version}
 use Rattle.blank.proofs.put_version.Goals as goal
 

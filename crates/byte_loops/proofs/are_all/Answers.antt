@@ -1,10 +1,5 @@
 -- `byte_loops::are_all` meets its contract. The bytes before `i` have the value.
-use borrow.Author.Rules.{rules}
-use Prim.Native.Nat.{◌-◌, ◌≤◌}
-use mathlib.Core.Path.{◌≡◌, refl, sym, ◌∙◌}
-use lib.Seq.{slice}
-use lib.Dec.{eqb}
-use Rattle.lists.specs.Lists.{all}
+use Rattle.std.proofs.Common.{rules, refl, sym, ◌∙◌}
 use Rattle.byte_loops.specs.Laws.{all_over, all_more, all_stop}
 use Rattle.byte_loops.proofs.are_all.Goals as goal
 

@@ -1,11 +1,7 @@
 -- `byte_loops::are_all` meets its contract. The bytes before `i` have the value.
-use borrow.Author.Rules.{rules}
-use Prim.Native.Nat.{◌-◌, ◌≤◌}
-use mathlib.Core.Path.{◌≡◌, refl, sym, ◌∙◌}
+use Rattle.std.proofs.Common.{◌-◌, ◌≤◌, ◌≡◌, eqb}
 use lib.Seq.{slice}
-use lib.Dec.{eqb}
 use Rattle.lists.specs.Lists.{all}
-use Rattle.byte_loops.specs.Laws.{all_over, all_more, all_stop}
 use Rattle.byte_loops.proofs.are_all.Given as goal
 
 abbrev pub invariant-loop-i : goal.invariant-loop-i

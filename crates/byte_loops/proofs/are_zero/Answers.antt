@@ -1,11 +1,5 @@
 -- `byte_loops::are_zero` meets its contract. `seen` has the bits of the bytes before `i`.
-use borrow.Author.Rules.{rules}
-use Prim.Native.Nat.{◌+◌, ◌-◌, ◌≤◌}
-use mathlib.Core.Path.{◌≡◌, sym, ◌∙◌}
-use mathlib.Core.Bool.{◌&&◌}
-use lib.Seq.{slice}
-use lib.Dec.{eqb}
-use Rattle.lists.specs.Lists.{all}
+use Rattle.std.proofs.Common.{rules, sym, ◌∙◌}
 use Rattle.byte_loops.specs.Laws.{zero_start, zero_step, zero_end}
 use Rattle.byte_loops.proofs.are_zero.Goals as goal
 

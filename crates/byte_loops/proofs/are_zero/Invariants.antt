@@ -1,12 +1,7 @@
 -- `byte_loops::are_zero` meets its contract. `seen` has the bits of the bytes before `i`.
-use borrow.Author.Rules.{rules}
-use Prim.Native.Nat.{◌+◌, ◌-◌, ◌≤◌}
-use mathlib.Core.Path.{◌≡◌, sym, ◌∙◌}
-use mathlib.Core.Bool.{◌&&◌}
+use Rattle.std.proofs.Common.{◌+◌, ◌-◌, ◌≤◌, ◌≡◌, ◌&&◌, eqb}
 use lib.Seq.{slice}
-use lib.Dec.{eqb}
 use Rattle.lists.specs.Lists.{all}
-use Rattle.byte_loops.specs.Laws.{zero_start, zero_step, zero_end}
 use Rattle.byte_loops.proofs.are_zero.Given as goal
 
 abbrev pub invariant-loop-i : goal.invariant-loop-i

@@ -1,9 +1,5 @@
 -- `byte_loops::copy` meets its contract. The loop's invariant: storing what is left of `from` gives what storing all of it gives at the start.
-use borrow.Author.Rules.{rules}
-use native.Mathlib.Omega.{arith}
-use Prim.Native.Nat.{ℕ, ◌+◌, ◌-◌, ◌≤◌}
-use mathlib.Core.Path.{◌≡◌, refl, sym, ap, ◌∙◌}
-use lib.ListN.{length, drop, length-set}
+use Rattle.std.proofs.Common.{rules, arith, ℕ, ◌+◌, ◌≡◌, refl, sym, ap, ◌∙◌, length-set}
 use lib.Seq.{sets}
 use Rattle.byte_loops.specs.Laws.{copy_step, copy_end}
 use Rattle.byte_loops.proofs.copy.Goals as goal

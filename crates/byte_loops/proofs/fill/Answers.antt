@@ -1,10 +1,5 @@
 -- `byte_loops::fill` meets its contract. The loop's invariant: filling what is left gives what filling all gives at the start.
-use borrow.Author.Rules.{rules}
-use native.Mathlib.Omega.{arith}
-use Prim.Native.Nat.{◌-◌, ◌≤◌}
-use mathlib.Core.Path.{◌≡◌, refl, sym, ◌∙◌}
-use lib.ListN.{length, replicate, length-set}
-use lib.Seq.{sets}
+use Rattle.std.proofs.Common.{rules, arith, refl, sym, ◌∙◌, length-set}
 use Rattle.byte_loops.specs.Laws.{fill_step, fill_end}
 use Rattle.byte_loops.proofs.fill.Goals as goal
 

@@ -1,11 +1,5 @@
 -- `byte_loops::same_at` meets its contract. The answer hangs on what is left of the part and of `these`.
-use borrow.Author.Rules.{rules}
-use native.Mathlib.Omega.{arith}
-use Prim.Native.Nat.{ℕ, ◌-◌, ◌≤◌}
-use mathlib.Core.Path.{◌≡◌, refl, sym, ◌∙◌}
-use mathlib.Core.List.{List}
-use lib.ListN.{length, take, drop}
-use Rattle.lists.specs.Lists.{same}
+use Rattle.std.proofs.Common.{rules, arith, ℕ, ◌≡◌, refl, sym, ◌∙◌, List, length, take, drop}
 use Rattle.byte_loops.specs.Laws.{same_step, same_stop, same_end, part_long, part_byte}
 use Rattle.byte_loops.proofs.same_at.Goals as goal
 use Rattle.byte_loops.proofs.same_at.Goals.{Start}

@@ -1,9 +1,5 @@
 -- `deleting::delete_entry` meets its contract.
-use borrow.Author.Rules.{rules}
-use native.Mathlib.Omega.{arith}
-use Prim.Native.Nat.{ℕ}
-use mathlib.Core.Path.{ap}
-use mathlib.Core.List.{[], ◌∷◌}
+use Rattle.std.proofs.Common.{arith, ℕ, ap, [], ◌∷◌}
 use Rattle.format.specs.Layout.{slot_at}
 use Rattle.format.specs.Effects.{system_write, delete_writes}
 use Rattle.soundness.specs.ListedWrites.{delete_on_disc, delete_once}
@@ -18,13 +14,12 @@ returns-then-list-list_size c =
     (omega (arith, c.if-list-list_size.true, c.list_size.ensures))
 
 pub put_deleted-requires : goal.put_deleted-requires
-put_deleted-requires c =
-    (
-      image_kept c.requires.0 c.remove-last.auto.image,
-      c.requires.1,
-      omega (arith, c.remove-last.ensures.last_is, c.requires.3.last_high, c.requires.0.valid.total),
-      omega (arith, c.if-list-list_size.false, c.list_size.ensures),
-    )
+put_deleted-requires c = (
+  image_kept c.requires.0 c.remove-last.auto.image,
+  c.requires.1,
+  omega (arith, c.remove-last.ensures.last_is, c.requires.3.last_high, c.requires.0.valid.total),
+  omega (arith, c.if-list-list_size.false, c.list_size.ensures),
+)
 
 pub returns : goal.returns
 unfolding delete_writes system_write slot_at

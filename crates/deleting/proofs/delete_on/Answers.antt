@@ -1,7 +1,5 @@
 -- `deleting::delete_on` meets its contract.
-use borrow.Author.Rules.{rules}
-use borrow.Author.Tests.{eqb-true}
-use mathlib.Core.Path.{◌≡◌, sym, ◌∙◌}
+use Rattle.std.proofs.Common.{eqb-true, ◌≡◌, sym, ◌∙◌}
 use Rattle.format.specs.Refusals.{PROTECTED}
 use Rattle.soundness.specs.WriteFacts.{removable}
 use Rattle.geometry.specs.Meaning.{geo, sectors_of}

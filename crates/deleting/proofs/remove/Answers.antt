@@ -1,7 +1,5 @@
 -- `deleting::remove` meets its contract.
-use borrow.Author.Rules.{rules}
-use native.Mathlib.Omega.{arith}
-use mathlib.Core.Path.{◌∙◌}
+use Rattle.std.proofs.Common.{arith, ◌∙◌}
 use Rattle.format.specs.Layout.{empty_slot, slot_at}
 use Rattle.geometry.specs.Meaning.{sectors_of}
 use Rattle.geometry.specs.Laws.{image_kept}
@@ -18,12 +16,11 @@ unfolding slot_at
 overflow_sub-in_use c = omega (arith, c.in_use_of-in_use.ensures, c.requires.3.in_use)
 
 pub put_link-requires : goal.put_link-requires
-put_link-requires c =
-    (
-      image_kept c.requires.0 c.put_slot.auto.image,
-      found_inside c.args.g c.in-To.is c.entry_of-entry.ensures.last_inside,
-      c.system_of-sys.ensures.inside,
-    )
+put_link-requires c = (
+  image_kept c.requires.0 c.put_slot.auto.image,
+  found_inside c.args.g c.in-To.is c.entry_of-entry.ensures.last_inside,
+  c.system_of-sys.ensures.inside,
+)
 
 pub put_system-requires : goal.put_system-requires
 put_system-requires c = (image_kept c.requires.0 (c.put_link.auto.image ∙ c.put_slot.auto.image), c.entry_of-entry.ensures.first_inside)

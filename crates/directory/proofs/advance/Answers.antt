@@ -1,7 +1,5 @@
 -- `directory::advance` meets its contract.
-use borrow.Author.Rules.{rules}
-use Prim.Native.Nat.{◌<◌}
-use mathlib.Core.Path.{ap, subst}
+use Rattle.std.proofs.Common.{◌<◌, ap, subst}
 use Rattle.disc.specs.Meaning.{meaning, Inside}
 use Rattle.disc.specs.declared.Link.{Link}
 use Rattle.directory.specs.Laws.{step_to, rest_none, rest_stop, rest_off}

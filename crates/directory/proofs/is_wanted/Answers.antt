@@ -1,7 +1,5 @@
 -- `directory::is_wanted` meets its contract.
-use borrow.Author.Rules.{rules}
-use mathlib.Core.Path.{ap, sym, ◌∙◌}
-use mathlib.Core.Bool.{Bool, cond}
+use Rattle.std.proofs.Common.{ap, sym, ◌∙◌, Bool, cond}
 use Rattle.lists.specs.Lists.{same}
 use Rattle.format.specs.Layout.{Slot, free_slot, name_of, slot_at}
 use Rattle.geometry.specs.Meaning.{sectors_of}

@@ -1,15 +1,10 @@
 -- `directory::last_sector` meets its contract. The loop's invariant: what the walk still meets, with `last` before it, ends as the directory does.
-use borrow.Author.Rules.{rules}
-use native.Mathlib.Omega.{arith}
-use Prim.Native.Nat.{◌<◌}
-use mathlib.Core.Path.{◌≡◌, ap, sym, ◌∙◌}
-use lib.ListN.{length}
+use Rattle.std.proofs.Common.{◌<◌, ◌≡◌, length}
 use Rattle.lists.specs.Lists.{last_or}
 use Rattle.format.specs.Layout.{directory}
 use Rattle.geometry.specs.Meaning.{geo, sectors_of}
 use Rattle.disc.specs.Meaning.{Inside}
-use Rattle.directory.specs.Meaning.{rest_of, Met}
-use Rattle.directory.specs.Laws.{stepped_to, stepped_end}
+use Rattle.directory.specs.Meaning.{rest_of}
 use Rattle.directory.proofs.last_sector.Given as goal
 
 abbrev pub invariant-loop-n : goal.invariant-loop-n

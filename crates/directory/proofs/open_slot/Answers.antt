@@ -1,6 +1,5 @@
 -- `directory::open_slot` meets its contract.
-use borrow.Author.Rules.{rules}
-use mathlib.Core.Path.{sym, ◌∙◌}
+use Rattle.std.proofs.Common.{sym, ◌∙◌}
 use Rattle.geometry.specs.Meaning.{geo, sectors_of}
 use Rattle.directory.specs.Laws.{open_first}
 use Rattle.directory.proofs.open_slot.Goals as goal

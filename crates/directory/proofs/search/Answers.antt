@@ -1,14 +1,8 @@
 -- `directory::search` meets its contract. The loop's invariant: the first wanted slot of the sectors that the walk still meets is the first of all.
-use borrow.Author.Rules.{rules}
-use native.Mathlib.Omega.{arith}
-use Prim.Native.Nat.{ℕ}
-use mathlib.Core.Path.{◌≡◌, ap, sym, ◌∙◌, subst}
-use mathlib.Core.List.{List}
-use lib.ListN.{length}
+use Rattle.std.proofs.Common.{arith, ℕ, ap, sym, ◌∙◌, subst, List, length}
 use Rattle.format.specs.Geometry.{Disc}
-use Rattle.format.specs.Layout.{slot_at, slots_of, slots}
+use Rattle.format.specs.Layout.{slot_at, slots_of}
 use Rattle.geometry.specs.Meaning.{geo, sectors_of}
-use Rattle.disc.specs.Meaning.{Inside}
 use Rattle.directory.specs.Meaning.{rest_of, Met, wanted_of, first_that, found_of, Within}
 use Rattle.directory.specs.Laws.{stepped_to, stepped_end, slots_none, slots_are, first_in, first_after}
 use Rattle.directory.specs.declared.Found.{Found}

@@ -1,17 +1,9 @@
 -- `directory::search` meets its contract. The loop's invariant: the first wanted slot of the sectors that the walk still meets is the first of all.
-use borrow.Author.Rules.{rules}
-use native.Mathlib.Omega.{arith}
-use Prim.Native.Nat.{ℕ}
-use mathlib.Core.Path.{◌≡◌, ap, sym, ◌∙◌, subst}
-use mathlib.Core.List.{List}
-use lib.ListN.{length}
-use Rattle.format.specs.Geometry.{Disc}
-use Rattle.format.specs.Layout.{slot_at, slots_of, slots}
+use Rattle.std.proofs.Common.{◌≡◌, length}
+use Rattle.format.specs.Layout.{slots_of, slots}
 use Rattle.geometry.specs.Meaning.{geo, sectors_of}
 use Rattle.disc.specs.Meaning.{Inside}
-use Rattle.directory.specs.Meaning.{rest_of, Met, wanted_of, first_that, found_of, Within}
-use Rattle.directory.specs.Laws.{stepped_to, stepped_end, slots_none, slots_are, first_in, first_after}
-use Rattle.directory.specs.declared.Found.{Found}
+use Rattle.directory.specs.Meaning.{rest_of, wanted_of, first_that}
 use Rattle.directory.proofs.search.Given as goal
 
 abbrev pub invariant-loop-n : goal.invariant-loop-n

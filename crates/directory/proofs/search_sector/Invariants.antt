@@ -1,13 +1,9 @@
 -- `directory::search_sector` meets its contract. The loop's invariant: the first wanted slot from slot i on is the first of all.
-use borrow.Author.Rules.{rules}
-use native.Mathlib.Omega.{arith}
-use Prim.Native.Nat.{◌-◌, ◌≤◌}
-use mathlib.Core.Path.{◌≡◌, ap, sym, ◌∙◌}
+use Rattle.std.proofs.Common.{◌-◌, ◌≤◌, ◌≡◌}
 use Rattle.format.specs.Layout.{slots_each, slots_at}
 use Rattle.geometry.specs.Meaning.{sectors_of}
 use Rattle.directory.specs.Meaning.{wanted_of, first_that}
-use Rattle.slots.specs.InOrder.{slots_from, slots_all, slots_end}
-use Rattle.directory.specs.Laws.{first_here, first_next}
+use Rattle.slots.specs.InOrder.{slots_from}
 use Rattle.directory.proofs.search_sector.Given as goal
 
 abbrev pub invariant-loop-i : goal.invariant-loop-i

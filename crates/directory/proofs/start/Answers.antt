@@ -1,5 +1,4 @@
 -- `directory::start` meets its contract.
-use borrow.Author.Rules.{rules}
 use Rattle.directory.specs.Laws.{started}
 use Rattle.directory.proofs.start.Goals as goal
 

@@ -1,6 +1,5 @@
 -- `disc::address_at` meets its contract.
-use native.Mathlib.Omega.{arith}
-use borrow.Author.Rules.{rules}
+use Rattle.std.proofs.Common.{arith}
 use Rattle.format.specs.GeometryLaws.{track_range, sector_range}
 use Rattle.geometry.specs.Meaning.{geo}
 use Rattle.disc.proofs.address_at.Goals as goal

@@ -1,6 +1,5 @@
 -- `disc::address_of` meets its contract.
-use mathlib.Core.Path.{refl, subst}
-use borrow.Author.Rules.{rules}
+use Rattle.std.proofs.Common.{refl, subst}
 use Rattle.disc.specs.Meaning.{Inside}
 use Rattle.disc.proofs.address_of.Goals as goal
 

@@ -1,5 +1,4 @@
 -- `disc::byte_in` meets its contract.
-use borrow.Author.Rules.{rules}
 use Rattle.geometry.specs.Laws.{byte_at}
 use Rattle.disc.specs.Laws.{lies_starts}
 use Rattle.disc.proofs.byte_in.Goals as goal

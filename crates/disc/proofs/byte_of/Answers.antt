@@ -1,5 +1,4 @@
 -- `disc::byte_of` meets its contract.
-use borrow.Author.Rules.{rules}
 use Rattle.geometry.specs.Laws.{byte_at}
 use Rattle.disc.proofs.byte_of.Goals as goal
 

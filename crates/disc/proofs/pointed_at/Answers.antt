@@ -1,6 +1,5 @@
 -- `disc::pointed_at` meets its contract.
-use mathlib.Core.Path.{sym, ap, ◌∙◌}
-use borrow.Author.Rules.{rules}
+use Rattle.std.proofs.Common.{sym, ap, ◌∙◌}
 use Rattle.disc.specs.Meaning.{led}
 use Rattle.disc.proofs.pointed_at.Goals as goal
 

@@ -1,5 +1,4 @@
 -- `disc::put` meets its contract.
-use borrow.Author.Rules.{rules}
 use Rattle.disc.proofs.put.Goals as goal
 
 pub returns : goal.returns

@@ -1,8 +1,5 @@
 -- `disc::put_in` meets its contract: bytes stored in the image lie in the sector that starts there.
-use borrow.Author.Rules.{rules}
-use native.Mathlib.Omega.{arith}
-use Prim.Native.Nat.{ℕ, ◌+◌}
-use mathlib.Core.Path.{ap, ◌∙◌}
+use Rattle.std.proofs.Common.{arith, ℕ, ◌+◌, ap, ◌∙◌}
 use lib.Seq.{sets}
 use Rattle.format.specs.GeometryLaws.{sets_cut}
 use Rattle.geometry.specs.Meaning.{form, geo, sectors_of}

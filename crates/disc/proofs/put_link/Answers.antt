@@ -1,5 +1,4 @@
 -- `disc::put_link` meets its contract.
-use borrow.Author.Rules.{rules}
 use Rattle.disc.proofs.put_link.Goals as goal
 
 pub returns : goal.returns

@@ -1,8 +1,5 @@
 -- `disc::put_sector` meets its contract: 256 bytes stored from offset 0 on are the whole sector.
-use mathlib.Core.Path.{◌≡◌}
-use native.Mathlib.Omega.{arith}
-use lib.ListN.{length}
-use borrow.Author.Rules.{rules}
+use Rattle.std.proofs.Common.{◌≡◌, arith, length}
 use Rattle.format.specs.Geometry.{sector}
 use Rattle.format.specs.GeometryLaws.{sector_full}
 use Rattle.geometry.specs.Meaning.{sectors_of}

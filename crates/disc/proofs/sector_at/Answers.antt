@@ -1,8 +1,5 @@
 -- `disc::sector_at` meets its contract. Nothing wraps: a sector ends within the image.
-use mathlib.Core.Path.{sym, subst}
-use Prim.Native.Nat.{ℕ, ◌+◌, ◌*◌, ◌≤◌}
-use native.Mathlib.Omega.{arith}
-use borrow.Author.Rules.{rules}
+use Rattle.std.proofs.Common.{sym, subst, ℕ, ◌+◌, ◌*◌, ◌≤◌, arith}
 use Rattle.format.specs.Geometry.{sector_number}
 use Rattle.format.specs.GeometryLaws.{on_disc_is}
 use Rattle.geometry.specs.Meaning.{geo, place_in, Starts}

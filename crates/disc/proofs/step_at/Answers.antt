@@ -1,7 +1,5 @@
 -- `disc::step_at` meets its contract.
-use mathlib.Core.Path.{sym, ap, ◌∙◌}
-use borrow.Author.Tests.{ne_eqb}
-use borrow.Author.Rules.{rules}
+use Rattle.std.proofs.Common.{sym, ap, ◌∙◌, ne_eqb}
 use Rattle.format.specs.Geometry.{go, pointed}
 use Rattle.format.specs.GeometryLaws.{pointed_stop}
 use Rattle.disc.proofs.step_at.Goals as goal

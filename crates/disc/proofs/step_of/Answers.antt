@@ -1,6 +1,5 @@
 -- `disc::step_of` meets its contract.
-use mathlib.Core.Path.{ap₂, ◌∙◌}
-use borrow.Author.Rules.{rules}
+use Rattle.std.proofs.Common.{ap₂, ◌∙◌}
 use Rattle.format.specs.Geometry.{pointed}
 use Rattle.geometry.specs.Laws.{bytes_at}
 use Rattle.disc.proofs.step_of.Goals as goal

@@ -1,6 +1,5 @@
 -- `disc::step_to` meets its contract.
-use mathlib.Core.Path.{sym, ap, subst, ◌∙◌}
-use borrow.Author.Rules.{rules}
+use Rattle.std.proofs.Common.{sym, ap, subst, ◌∙◌}
 use Rattle.format.specs.Geometry.{go}
 use Rattle.disc.specs.Meaning.{meaning, Inside}
 use Rattle.disc.proofs.step_to.Goals as goal

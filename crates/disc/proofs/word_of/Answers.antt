@@ -1,7 +1,5 @@
 -- `disc::word_of` meets its contract.
-use mathlib.Core.Path.{ap₂, ◌∙◌}
-use Prim.Native.Nat.{ℕ, ◌+◌, ◌*◌}
-use borrow.Author.Rules.{rules}
+use Rattle.std.proofs.Common.{ap₂, ◌∙◌, ℕ, ◌+◌, ◌*◌}
 use Rattle.geometry.specs.Laws.{bytes_at}
 use Rattle.disc.proofs.word_of.Goals as goal
 

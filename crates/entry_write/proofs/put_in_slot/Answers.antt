@@ -1,5 +1,4 @@
 -- `entry_write::put_in_slot` meets its contract.
-use borrow.Author.Rules.{rules}
 use Rattle.format.specs.Layout.{slot_at}
 use Rattle.entry_write.proofs.put_in_slot.Goals as goal
 

@@ -1,8 +1,5 @@
 -- `entry_write::put_listed` meets its contract.
-use borrow.Author.Rules.{rules}
-use native.Mathlib.Omega.{arith}
-use mathlib.Core.Path.{refl}
-use mathlib.Core.List.{[], ◌∷◌}
+use Rattle.std.proofs.Common.{arith, refl, [], ◌∷◌}
 use Rattle.lists.specs.ListLaws.{All, done, ◌also◌}
 use Rattle.format.specs.Layout.{slot_at}
 use Rattle.format.specs.Effects.{slot_write}

@@ -1,12 +1,7 @@
 -- `fsck::all_marked` meets its contract. `least` is the least of 1 and the marks before `n`.
-use borrow.Author.Rules.{rules}
-use Prim.Native.Nat.{◌-◌, ◌≤◌}
-use mathlib.Core.Path.{◌≡◌, refl}
-use mathlib.Core.Bool.{not, ◌&&◌}
-use lib.Dec.{eqb}
+use Rattle.std.proofs.Common.{◌-◌, ◌≤◌, ◌≡◌, not, ◌&&◌, eqb}
 use Rattle.lists.specs.Lists.{all, range}
 use Rattle.fsck_chains.specs.Marks.{clear}
-use Rattle.fsck.specs.Free.{marks_over, marks_next}
 use Rattle.fsck.proofs.all_marked.Given as goal
 
 abbrev pub invariant-loop-n : goal.invariant-loop-n

@@ -1,7 +1,5 @@
 -- `fsck::check` meets its contract.
-use native.Mathlib.Omega.{arith}
-use mathlib.Core.Path.{sym, ◌∙◌}
-use borrow.Author.Rules.{rules}
+use Rattle.std.proofs.Common.{arith, sym, ◌∙◌}
 use Rattle.geometry.specs.Meaning.{kind_of}
 use Rattle.geometry.specs.Laws.{Opened, opened, geometry_wrong}
 use Rattle.fsck.specs.Answer.{after_size, after_rule}

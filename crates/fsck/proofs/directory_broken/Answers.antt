@@ -1,9 +1,5 @@
 -- `fsck::directory_broken` meets its contract.
-use native.Mathlib.Omega.{arith}
-use mathlib.Core.Path.{◌≡◌, sym, ◌∙◌}
-use mathlib.Core.Bool.{true}
-use borrow.Author.Rules.{rules}
-use borrow.Author.Tests.{not-true, not-false}
+use Rattle.std.proofs.Common.{arith, ◌≡◌, sym, ◌∙◌, true}
 use Rattle.format.specs.Geometry.{Disc}
 use Rattle.format.specs.Layout.{directory_pointer}
 use Rattle.format.specs.Check.{rule1}
@@ -19,7 +15,7 @@ use Rattle.fsck.proofs.directory_broken.Goals.{After-step_to-from}
 abbrev valid : (c : After-step_to-from) → Valid c.args.g
 valid c = c.requires.0.valid
 
-abbrev disc : After-step_to-from  → Disc
+abbrev disc : After-step_to-from → Disc
 disc c = sectors_of c.args.g c.args.image.now
 
 holds_1 : (c : After-step_to-from) → rule1 (geo c.args.g) (disc c) ≡ true

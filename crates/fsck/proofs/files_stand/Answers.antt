@@ -1,10 +1,5 @@
 -- `fsck::files_stand` meets its contract.
-use native.Mathlib.Omega.{arith}
-use Prim.Native.Nat.{ℕ}
-use mathlib.Core.Path.{ap}
-use mathlib.Core.List.{List}
-use lib.ListN.{set}
-use borrow.Author.Rules.{rules}
+use Rattle.std.proofs.Common.{arith, ℕ, ap, List, set}
 use Rattle.fsck_chains.specs.Marks.{marked}
 use Rattle.fsck.specs.Rules.{marks_of, rule5_bad, rule5_good}
 use Rattle.fsck.proofs.files_stand.Goals as goal

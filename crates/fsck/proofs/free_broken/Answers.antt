@@ -1,8 +1,5 @@
 -- `fsck::free_broken` meets its contract.
-use mathlib.Core.Path.{◌≡◌, sym, ◌∙◌}
-use mathlib.Core.Bool.{true}
-use borrow.Author.Rules.{rules}
-use borrow.Author.Tests.{not-true, not-false, eq-eqb, ne_eqb}
+use Rattle.std.proofs.Common.{◌≡◌, sym, ◌∙◌, true, eq-eqb, ne_eqb}
 use Rattle.format.specs.Geometry.{Geometry, Disc}
 use Rattle.format.specs.Check.{rule6, rule7, rule8}
 use Rattle.format.specs.CheckLaws.{broken_6, broken_7, broken_8, rules_sound}
@@ -13,10 +10,10 @@ use Rattle.fsck.proofs.free_broken.Goals.{After-all_marked, After-free_good, Els
 
 -- ---- places: the function's start; the walk along the free chain; rule 7 holds
 
-abbrev G : After-free_good  → Geometry
+abbrev G : After-free_good → Geometry
 G c = geo c.args.g
 
-abbrev disc : After-free_good  → Disc
+abbrev disc : After-free_good → Disc
 disc c = sectors_of c.args.g c.args.image.now
 
 -- ---- what the tests say of the rules

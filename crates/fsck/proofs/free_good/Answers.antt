@@ -1,5 +1,4 @@
 -- `fsck::free_good` meets its contract.
-use borrow.Author.Rules.{rules}
 use Rattle.fsck.specs.Free.{free_broken, free_ended}
 use Rattle.fsck.proofs.free_good.Goals as goal
 

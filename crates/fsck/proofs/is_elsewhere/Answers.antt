@@ -1,6 +1,5 @@
 -- `fsck::is_elsewhere` meets its contract.
-use mathlib.Core.Path.{sym, ap}
-use borrow.Author.Rules.{rules}
+use Rattle.std.proofs.Common.{sym, ap}
 use Rattle.format.specs.Check.{elsewhere}
 use Rattle.disc.specs.Meaning.{meaning}
 use Rattle.disc.specs.declared.Link.{Link}

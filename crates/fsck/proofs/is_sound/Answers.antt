@@ -1,8 +1,5 @@
 -- `fsck::is_sound` meets its contract.
-use Prim.Native.Nat.{ℕ}
-use mathlib.Core.Path.{ap}
-use borrow.Author.Rules.{rules}
-use lib.Dec.{eqb}
+use Rattle.std.proofs.Common.{ℕ, ap, eqb}
 use Rattle.fsck.proofs.is_sound.Goals as goal
 
 pub returns : goal.returns

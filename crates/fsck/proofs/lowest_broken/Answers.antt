@@ -1,5 +1,4 @@
 -- `fsck::lowest_broken` meets its contract.
-use borrow.Author.Rules.{rules}
 use Rattle.fsck.specs.Rules.{stands_broken, stands_good}
 use Rattle.fsck.proofs.lowest_broken.Goals as goal
 

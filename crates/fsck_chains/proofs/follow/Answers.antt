@@ -1,6 +1,5 @@
 -- `fsck_chains::follow` meets its contract.
-use borrow.Author.Rules.{rules}
-use mathlib.Core.Path.{sym, ap}
+use Rattle.std.proofs.Common.{sym, ap}
 use Rattle.disc.specs.Meaning.{led}
 use Rattle.disc.specs.Laws.{reached}
 use Rattle.fsck_chains.specs.Walks.{walking_start, walking_stop, walking_off}

@@ -1,13 +1,9 @@
 -- `fsck_chains::follow_from` meets its contract. What is left of the walk, from `at` on, decides.
-use borrow.Author.Rules.{rules}
-use native.Mathlib.Omega.{arith}
-use Prim.Native.Nat.{◌+◌, ◌-◌, ◌≤◌}
-use lib.ListN.{set}
-use mathlib.Core.Path.{refl, ap}
+use Rattle.std.proofs.Common.{rules, arith, ◌+◌, set, refl, ap}
 use Rattle.format.specs.Geometry.{sectors, go}
 use Rattle.format.specs.Layout.{chain}
 use Rattle.geometry.specs.Meaning.{geo, sectors_of}
-use Rattle.disc.specs.Meaning.{Lies, led}
+use Rattle.disc.specs.Meaning.{led}
 use Rattle.disc.specs.Laws.{reached}
 use Rattle.fsck_chains.specs.Marks.{marked}
 use Rattle.fsck_chains.specs.Walks.{walk, Walking, walking_start, walking_stop, walking_off, walking_any, walking_long, walking_twice, walking_go}

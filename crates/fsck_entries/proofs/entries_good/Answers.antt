@@ -1,14 +1,8 @@
 -- `fsck_entries::entries_good` meets its contract. The answer hangs on the sectors that the walk still meets.
-use borrow.Author.Rules.{rules}
-use native.Mathlib.Omega.{arith}
-use mathlib.Core.Path.{◌≡◌, ap, ◌∙◌}
-use lib.ListN.{length}
-use borrow.Author.Tests.{not-true, not-false}
+use Rattle.std.proofs.Common.{arith, ap, ◌∙◌, length}
 use Rattle.lists.specs.Lists.{all}
-use Rattle.format.specs.Check.{rule3}
 use Rattle.geometry.specs.Meaning.{geo, sectors_of}
-use Rattle.disc.specs.Meaning.{Inside}
-use Rattle.directory.specs.Meaning.{rest_of, Met}
+use Rattle.directory.specs.Meaning.{Met}
 use Rattle.directory.specs.Laws.{stepped_to, stepped_end}
 use Rattle.fsck_entries.specs.Good.{good_sector, rule3_is, each_over, each_not, each_next}
 use Rattle.fsck_entries.proofs.entries_good.Goals as goal

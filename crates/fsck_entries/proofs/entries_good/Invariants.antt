@@ -1,16 +1,11 @@
 -- `fsck_entries::entries_good` meets its contract. The answer hangs on the sectors that the walk still meets.
-use borrow.Author.Rules.{rules}
-use native.Mathlib.Omega.{arith}
-use mathlib.Core.Path.{◌≡◌, ap, ◌∙◌}
-use lib.ListN.{length}
-use borrow.Author.Tests.{not-true, not-false}
+use Rattle.std.proofs.Common.{◌≡◌, length}
 use Rattle.lists.specs.Lists.{all}
 use Rattle.format.specs.Check.{rule3}
 use Rattle.geometry.specs.Meaning.{geo, sectors_of}
 use Rattle.disc.specs.Meaning.{Inside}
-use Rattle.directory.specs.Meaning.{rest_of, Met}
-use Rattle.directory.specs.Laws.{stepped_to, stepped_end}
-use Rattle.fsck_entries.specs.Good.{good_sector, rule3_is, each_over, each_not, each_next}
+use Rattle.directory.specs.Meaning.{rest_of}
+use Rattle.fsck_entries.specs.Good.{good_sector}
 use Rattle.fsck_entries.proofs.entries_good.Given as goal
 
 abbrev pub invariant-loop-n : goal.invariant-loop-n

@@ -1,10 +1,5 @@
 -- `fsck_entries::entry_good` meets its contract.
-use native.Mathlib.Omega.{arith}
-use Prim.Native.Nat.{ℕ, ◌+◌}
-use mathlib.Core.Path.{◌≡◌, sym, ap, ap₂, ◌∙◌}
-use lib.ListN.{take, drop}
-use borrow.Author.Rules.{rules}
-use borrow.Author.Tests.{not-true, not-false}
+use Rattle.std.proofs.Common.{arith, ℕ, ◌+◌, ◌≡◌, sym, ap, ap₂, ◌∙◌, take, drop}
 use Rattle.format.specs.Names.{legal_stored}
 use Rattle.format.specs.Layout.{is_attribute, name_of, slot_at}
 use Rattle.geometry.specs.Meaning.{sectors_of}

@@ -1,10 +1,7 @@
 -- `fsck_entries::is_legal` meets its contract.
-use borrow.Author.Rules.{rules}
-use mathlib.Core.Path.{◌≡◌, sym, ◌∙◌}
-use mathlib.Core.Bool.{true}
+use Rattle.std.proofs.Common.{◌≡◌, sym, ◌∙◌, true}
 use Rattle.lists.specs.Lists.{byte}
 use Rattle.format.specs.Names.{letter}
-use borrow.Author.Tests.{not-true, not-false}
 use Rattle.fsck_entries.specs.Good.{legal_is}
 use Rattle.fsck_entries.proofs.is_legal.Goals as goal
 use Rattle.fsck_entries.proofs.is_legal.Goals.{Else-not-is_letter}

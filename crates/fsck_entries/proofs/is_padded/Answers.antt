@@ -1,6 +1,5 @@
 -- `fsck_entries::is_padded` meets its contract.
-use mathlib.Core.Path.{sym, ◌∙◌}
-use borrow.Author.Rules.{rules}
+use Rattle.std.proofs.Common.{sym, ◌∙◌}
 use Rattle.fsck_entries.proofs.is_padded.Goals as goal
 
 pub returns : goal.returns

@@ -1,10 +1,5 @@
 -- `fsck_entries::letters_end` meets its contract. The bytes before `i` are letters.
-use borrow.Author.Rules.{rules}
-use Prim.Native.Nat.{◌-◌, ◌≤◌}
-use mathlib.Core.Path.{◌≡◌, refl, sym, ◌∙◌}
-use lib.Seq.{slice}
-use borrow.Author.Tests.{not-true, not-false}
-use Rattle.format.specs.Names.{spaced}
+use Rattle.std.proofs.Common.{rules, refl, sym, ◌∙◌}
 use Rattle.fsck_entries.specs.Good.{spaced_letter, spaced_rest, spaced_over}
 use Rattle.fsck_entries.proofs.letters_end.Goals as goal
 

@@ -1,7 +1,5 @@
 -- `fsck_files::file_of` meets its contract.
-use borrow.Author.Rules.{rules}
-use native.Mathlib.Omega.{arith}
-use borrow.Author.Tests.{not-true, not-false}
+use Rattle.std.proofs.Common.{arith}
 use Rattle.fsck_files.specs.Files.{file_broken, file_length, file_last, file_good}
 use Rattle.fsck_files.proofs.file_of.Goals as goal
 

@@ -1,6 +1,5 @@
 -- `fsck_files::leads_to` meets its contract.
-use mathlib.Core.Path.{sym, ap}
-use borrow.Author.Rules.{rules}
+use Rattle.std.proofs.Common.{sym, ap}
 use Rattle.format.specs.Check.{at?}
 use Rattle.disc.specs.Meaning.{meaning}
 use Rattle.disc.specs.declared.Link.{Link}

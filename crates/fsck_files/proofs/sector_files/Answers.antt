@@ -1,14 +1,9 @@
 -- `fsck_files::sector_files` meets its contract. What is left of the pass, from slot `i` on, decides.
-use borrow.Author.Rules.{rules}
-use native.Mathlib.Omega.{arith}
-use Prim.Native.Nat.{◌+◌, ◌*◌, ◌-◌, ◌≤◌}
-use mathlib.Core.Path.{◌≡◌, refl, sym, ◌∙◌}
-use mathlib.Core.List.{◌∷◌}
-use Rattle.format.specs.Layout.{slots_each, in_use, slot_at}
-use Rattle.geometry.specs.Meaning.{geo, sectors_of}
+use Rattle.std.proofs.Common.{rules, arith, ◌+◌, ◌≤◌, ◌≡◌, refl, sym, ◌∙◌, ◌∷◌}
+use Rattle.format.specs.Layout.{in_use, slot_at}
+use Rattle.geometry.specs.Meaning.{sectors_of}
 use Rattle.slots.specs.InOrder.{slots_from, use_over, use_next_free, use_next_used}
-use Rattle.fsck_chains.specs.Marks.{marked}
-use Rattle.fsck_files.specs.Files.{files_of, filed, at_most, Filing, filing_start, filing_over, filing_skip, filing_bad, filing_next}
+use Rattle.fsck_files.specs.Files.{at_most, filing_start, filing_over, filing_skip, filing_bad, filing_next}
 use Rattle.fsck_files.proofs.sector_files.Goals as goal
 use Rattle.fsck_files.proofs.sector_files.Goals.{Else-slot_free, In-Good}
 

@@ -1,7 +1,5 @@
 -- `fsck_names::bucket_of` meets its contract.
-use borrow.Author.Rules.{rules}
-use Prim.Native.Nat.{ℕ, ◌%◌}
-use mathlib.Core.Path.{ap, ◌∙◌}
+use Rattle.std.proofs.Common.{rules, ℕ, ◌%◌, ap, ◌∙◌}
 use Rattle.fsck_names.specs.Tally.{bucket_one, bucket_many}
 use Rattle.fsck_names.proofs.bucket_of.Goals as goal
 

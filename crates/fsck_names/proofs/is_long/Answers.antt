@@ -1,5 +1,4 @@
 -- `fsck_names::is_long` meets its contract.
-use borrow.Author.Rules.{rules}
 use Rattle.directory.specs.Laws.{stepped_to}
 use Rattle.fsck_names.proofs.is_long.Goals as goal
 

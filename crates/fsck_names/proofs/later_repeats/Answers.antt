@@ -1,14 +1,8 @@
 -- `fsck_names::later_repeats` meets its contract. The answer hangs on the sectors that the walk still meets.
-use borrow.Author.Rules.{rules}
-use native.Mathlib.Omega.{arith}
-use mathlib.Core.Path.{◌≡◌, refl, ap}
-use lib.ListN.{length}
-use Rattle.format.specs.Layout.{slot_at}
-use Rattle.geometry.specs.Meaning.{sectors_of}
-use Rattle.disc.specs.Meaning.{Inside}
-use Rattle.directory.specs.Meaning.{rest_of, entries_left, Met}
+use Rattle.std.proofs.Common.{rules, arith, refl, ap, length}
+use Rattle.directory.specs.Meaning.{Met}
 use Rattle.directory.specs.Laws.{stepped_to, stepped_end, left_met, left_over}
-use Rattle.fsck_names.specs.Differ.{named, named_over, named_here, named_later}
+use Rattle.fsck_names.specs.Differ.{named_over, named_here, named_later}
 use Rattle.fsck_names.proofs.later_repeats.Goals as goal
 use Rattle.fsck_names.proofs.later_repeats.Goals.{In-Sector}
 

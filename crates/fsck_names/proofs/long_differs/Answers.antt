@@ -1,9 +1,6 @@
 -- `fsck_names::long_differs` meets its contract.
-use borrow.Author.Rules.{rules}
-use Prim.Native.Nat.{ℕ}
-use native.Mathlib.Omega.{arith}
-use mathlib.Core.Path.{sym, ap, ◌∙◌}
-use lib.ListN.{length, length-replicate}
+use Rattle.std.proofs.Common.{ℕ, arith, sym, ap, ◌∙◌, length}
+use lib.ListN.{length-replicate}
 use Rattle.fsck_names.specs.Tally.{tally_long, covers_tallied}
 use Rattle.fsck_names.proofs.long_differs.Goals as goal
 

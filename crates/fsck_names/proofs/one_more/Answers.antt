@@ -1,6 +1,5 @@
 -- `fsck_names::one_more` meets its contract.
-use borrow.Author.Rules.{rules}
-use mathlib.Core.Path.{sym}
+use Rattle.std.proofs.Common.{sym}
 use Rattle.fsck_names.specs.Tally.{more_low, more_high}
 use Rattle.fsck_names.proofs.one_more.Goals as goal
 

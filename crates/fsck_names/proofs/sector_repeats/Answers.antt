@@ -1,12 +1,7 @@
 -- `fsck_names::sector_repeats` meets its contract. The answer hangs on the slots from `j` on.
-use borrow.Author.Rules.{rules}
-use Prim.Native.Nat.{ℕ, ◌-◌, ◌≤◌}
-use mathlib.Core.Bool.{Bool}
-use mathlib.Core.Path.{◌≡◌, refl}
-use Rattle.format.specs.Layout.{slots_each, in_use, slot_at}
-use Rattle.geometry.specs.Meaning.{sectors_of}
-use Rattle.slots.specs.InOrder.{slots_from, use_next, use_over}
-use Rattle.fsck_names.specs.Differ.{named, named_over, named_here, named_later}
+use Rattle.std.proofs.Common.{rules, refl}
+use Rattle.slots.specs.InOrder.{use_next, use_over}
+use Rattle.fsck_names.specs.Differ.{named_over, named_here, named_later}
 use Rattle.fsck_names.proofs.sector_repeats.Goals as goal
 
 pub loop-j-init : goal.loop-j-init

@@ -1,12 +1,9 @@
 -- `fsck_names::sector_repeats` meets its contract. The answer hangs on the slots from `j` on.
-use borrow.Author.Rules.{rules}
-use Prim.Native.Nat.{ℕ, ◌-◌, ◌≤◌}
-use mathlib.Core.Bool.{Bool}
-use mathlib.Core.Path.{◌≡◌, refl}
+use Rattle.std.proofs.Common.{ℕ, ◌-◌, ◌≤◌, Bool, ◌≡◌}
 use Rattle.format.specs.Layout.{slots_each, in_use, slot_at}
 use Rattle.geometry.specs.Meaning.{sectors_of}
-use Rattle.slots.specs.InOrder.{slots_from, use_next, use_over}
-use Rattle.fsck_names.specs.Differ.{named, named_over, named_here, named_later}
+use Rattle.slots.specs.InOrder.{slots_from}
+use Rattle.fsck_names.specs.Differ.{named}
 use Rattle.fsck_names.proofs.sector_repeats.Given as goal
 
 abbrev pub invariant-loop-j : goal.invariant-loop-j

@@ -1,5 +1,4 @@
 -- `fsck_names::short_differs` meets its contract.
-use borrow.Author.Rules.{rules}
 use Rattle.fsck_names.specs.Tally.{covers_two}
 use Rattle.fsck_names.proofs.short_differs.Goals as goal
 

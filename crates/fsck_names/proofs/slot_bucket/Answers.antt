@@ -1,8 +1,5 @@
 -- `fsck_names::slot_bucket` meets its contract.
-use borrow.Author.Rules.{rules}
-use Prim.Native.Nat.{ℕ, ◌+◌}
-use mathlib.Core.Path.{sym, ap, ap₂, ◌∙◌}
-use lib.ListN.{take, drop}
+use Rattle.std.proofs.Common.{ℕ, ◌+◌, sym, ap, ap₂, ◌∙◌, take, drop}
 use Rattle.slots.specs.Laws.{name_at}
 use Rattle.fsck_names.specs.Tally.{bucket_of}
 use Rattle.fsck_names.proofs.slot_bucket.Goals as goal

@@ -1,7 +1,5 @@
 -- `fsck_names::slot_differs` meets its contract.
-use mathlib.Core.Path.{◌≡◌, sym, ◌∙◌}
-use mathlib.Core.Bool.{false}
-use borrow.Author.Rules.{rules}
+use Rattle.std.proofs.Common.{◌≡◌, sym, ◌∙◌, false, rules}
 use Rattle.format.specs.Layout.{free_slot, slot_at}
 use Rattle.geometry.specs.Meaning.{sectors_of}
 use Rattle.fsck_names.specs.Differ.{apart_free, apart_taken, apart_later}

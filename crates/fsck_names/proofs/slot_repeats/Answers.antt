@@ -1,6 +1,4 @@
 -- `fsck_names::slot_repeats` meets its contract.
-use borrow.Author.Rules.{rules}
-use borrow.Author.Tests.{not-true, not-false}
 use Rattle.fsck_names.specs.Differ.{other_name, same_name}
 use Rattle.fsck_names.proofs.slot_repeats.Goals as goal
 

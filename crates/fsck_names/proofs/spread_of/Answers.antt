@@ -1,5 +1,5 @@
 -- `fsck_names::spread_of` meets its contract.
-use borrow.Author.Rules.{rules}
+use Rattle.std.proofs.Common.{rules}
 use Rattle.fsck_names.specs.Tally.{spread}
 use Rattle.fsck_names.proofs.spread_of.Goals as goal
 

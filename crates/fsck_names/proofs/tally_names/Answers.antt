@@ -1,12 +1,6 @@
 -- `fsck_names::tally_names` meets its contract. What is left to count, in the sectors that the walk still meets, gives the whole.
-use borrow.Author.Rules.{rules}
-use native.Mathlib.Omega.{arith}
-use mathlib.Core.Path.{◌≡◌, ap}
-use lib.ListN.{length}
-use Rattle.format.specs.Layout.{entries}
-use Rattle.geometry.specs.Meaning.{geo, sectors_of}
-use Rattle.disc.specs.Meaning.{Inside}
-use Rattle.directory.specs.Meaning.{rest_of, entries_left, Met}
+use Rattle.std.proofs.Common.{arith, ap, length}
+use Rattle.directory.specs.Meaning.{Met}
 use Rattle.directory.specs.Laws.{stepped_to, stepped_end, left_all, left_met, left_over}
 use Rattle.fsck_names.specs.Tally.{tallied, tally_over, tally_next}
 use Rattle.fsck_names.proofs.tally_names.Goals as goal

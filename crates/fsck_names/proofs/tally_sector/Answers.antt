@@ -1,12 +1,7 @@
 -- `fsck_names::tally_sector` meets its contract. What is left to count, from slot `i` on, gives the whole.
-use borrow.Author.Rules.{rules}
-use Prim.Native.Nat.{ℕ, ◌-◌, ◌≤◌}
-use mathlib.Core.List.{List}
-use mathlib.Core.Path.{◌≡◌, refl}
-use Rattle.format.specs.Layout.{slots_each, Slot, in_use}
-use Rattle.geometry.specs.Meaning.{sectors_of}
-use Rattle.slots.specs.InOrder.{slots_from, use_next, use_over}
-use Rattle.fsck_names.specs.Tally.{tallied, tally_over, tally_next}
+use Rattle.std.proofs.Common.{rules, refl}
+use Rattle.slots.specs.InOrder.{use_next, use_over}
+use Rattle.fsck_names.specs.Tally.{tally_over, tally_next}
 use Rattle.fsck_names.proofs.tally_sector.Goals as goal
 
 pub loop-i-init : goal.loop-i-init

@@ -1,12 +1,9 @@
 -- `fsck_names::tally_sector` meets its contract. What is left to count, from slot `i` on, gives the whole.
-use borrow.Author.Rules.{rules}
-use Prim.Native.Nat.{ℕ, ◌-◌, ◌≤◌}
-use mathlib.Core.List.{List}
-use mathlib.Core.Path.{◌≡◌, refl}
+use Rattle.std.proofs.Common.{ℕ, ◌-◌, ◌≤◌, List, ◌≡◌}
 use Rattle.format.specs.Layout.{slots_each, Slot, in_use}
 use Rattle.geometry.specs.Meaning.{sectors_of}
-use Rattle.slots.specs.InOrder.{slots_from, use_next, use_over}
-use Rattle.fsck_names.specs.Tally.{tallied, tally_over, tally_next}
+use Rattle.slots.specs.InOrder.{slots_from}
+use Rattle.fsck_names.specs.Tally.{tallied}
 use Rattle.fsck_names.proofs.tally_sector.Given as goal
 
 abbrev pub invariant-loop-i : goal.invariant-loop-i

@@ -1,6 +1,5 @@
 -- `fsck_names::tally_slot` meets its contract.
-use borrow.Author.Rules.{rules}
-use mathlib.Core.Path.{sym, ◌∙◌}
+use Rattle.std.proofs.Common.{sym, ◌∙◌}
 use Rattle.fsck_names.specs.Tally.{tally_free, tally_used}
 use Rattle.fsck_names.proofs.tally_slot.Goals as goal
 

@@ -1,11 +1,5 @@
 -- `geometry::geometry_of` meets its contract.
-use mathlib.Core.Path.{◌≡◌, sym, ◌∙◌}
-use mathlib.Core.Bool.{true}
-use native.Mathlib.Omega.{arith}
-use Prim.Native.Nat.{◌*◌, ◌≤◌}
-use native.Mathlib.Nat.{mul-le-mul}
-use borrow.Author.Rules.{rules}
-use borrow.Author.Tests.{not-true, not-false}
+use Rattle.std.proofs.Common.{◌≡◌, sym, ◌∙◌, true, arith, ◌*◌, ◌≤◌, mul-le-mul}
 use Rattle.geometry.specs.Meaning.{known}
 use Rattle.geometry.specs.Laws.{known_is, sized_unknown, sized_none, sized_many, sized_done}
 use Rattle.geometry.proofs.geometry_of.Goals as goal

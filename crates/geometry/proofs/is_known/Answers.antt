@@ -1,6 +1,5 @@
 -- `geometry::is_known` meets its contract.
-use mathlib.Core.Path.{refl}
-use borrow.Author.Tests.{eq-eqb, ne_eqb}
+use Rattle.std.proofs.Common.{refl, eq-eqb, ne_eqb}
 use Rattle.geometry.proofs.is_known.Goals as goal
 
 pub returns-then-stated-eq10 : goal.returns-then-stated-eq10

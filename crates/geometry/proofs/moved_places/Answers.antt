@@ -1,18 +1,12 @@
 -- `geometry::moved_places` meets its contract. The loop's invariant: with the places that are still to be added, the sum is that of all.
-use borrow.Author.Rules.{rules}
-use native.Mathlib.Omega.{arith}
-use Prim.Native.Nat.{◌+◌, ◌-◌, ◌≤◌}
-use mathlib.Core.Path.{◌≡◌}
+use Rattle.std.proofs.Common.{arith}
 use Rattle.format.specs.Geometry.{stated, ten_moved, ten}
 use Rattle.format.specs.Formats.{ten_good, order_range}
-use Rattle.geometry.specs.Laws.{places_left, places_step, places_done}
+use Rattle.geometry.specs.Laws.{places_step, places_done}
 use Rattle.geometry.proofs.moved_places.Goals as goal
 
 pub loop-i-init : goal.loop-i-init
 loop-i-init c = (omega arith, omega arith)
-
--- UNCONVERTED array-read-places : tie.Need-array-read-places invariant-loop decreases-loop
--- UNCONVERTED array-read-places c = search rules
 
 pub overflow_cast-places : goal.overflow_cast-places
 unfolding stated ten_moved ten

@@ -1,6 +1,5 @@
 -- `geometry::number_of` meets its contract. Nothing wraps: the number is below that of all sectors.
-use native.Mathlib.Omega.{arith}
-use borrow.Author.Rules.{rules}
+use Rattle.std.proofs.Common.{arith}
 use Rattle.format.specs.GeometryLaws.{on_disc_is}
 use Rattle.geometry.specs.Laws.{number_on}
 use Rattle.geometry.specs.Meaning.{geo}

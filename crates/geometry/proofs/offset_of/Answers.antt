@@ -1,8 +1,5 @@
 -- `geometry::offset_of` meets its contract.
-use mathlib.Core.Path.{ap, ◌∙◌}
-use Prim.Native.Nat.{ℕ, ◌*◌, ◌/◌, ◌%◌, ◌^◌}
-use native.Mathlib.Omega.{arith}
-use borrow.Author.Rules.{rules}
+use Rattle.std.proofs.Common.{ap, ◌∙◌, ℕ, ◌*◌, ◌/◌, ◌%◌, ◌^◌, arith}
 use Rattle.geometry.specs.Laws.{offset_in}
 use Rattle.geometry.proofs.offset_of.Goals as goal
 

@@ -1,7 +1,5 @@
 -- `geometry::places_of` meets its contract.
-use mathlib.Core.Path.{◌≡◌, sym, ap, ◌∙◌}
-use borrow.Author.Rules.{rules}
-use native.Mathlib.Omega.{arith}
+use Rattle.std.proofs.Common.{◌≡◌, sym, ap, ◌∙◌, arith}
 use Rattle.format.specs.Geometry.{ten, stated}
 use Rattle.geometry.specs.Meaning.{places_of}
 use Rattle.geometry.proofs.places_of.Goals as goal

@@ -1,7 +1,5 @@
 -- `geometry::start_of` meets its contract. Nothing wraps: a sector ends within the image.
-use mathlib.Core.Path.{sym, subst}
-use Prim.Native.Nat.{ℕ, ◌+◌, ◌*◌, ◌/◌}
-use borrow.Author.Rules.{rules}
+use Rattle.std.proofs.Common.{sym, subst, ℕ, ◌+◌, ◌*◌, ◌/◌}
 use Rattle.geometry.specs.Meaning.{Starts}
 use Rattle.geometry.specs.Laws.{starts}
 use Rattle.geometry.proofs.start_of.Goals as goal

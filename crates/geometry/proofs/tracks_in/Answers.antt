@@ -1,8 +1,5 @@
 -- `geometry::tracks_in` meets its contract: each constant is the number stated.
-use Prim.Native.Nat.{ℕ}
-use mathlib.Core.Path.{◌≡◌, sym, ap, ◌∙◌}
-use native.Mathlib.Omega.{arith}
-use borrow.Author.Rules.{rules}
+use Rattle.std.proofs.Common.{ℕ, ◌≡◌, sym, ap, ◌∙◌, arith}
 use Rattle.geometry.specs.Meaning.{whole_tracks}
 use Rattle.geometry.specs.Laws.{whole_tracks_exact, part_tracks}
 use Rattle.geometry.proofs.tracks_in.Goals as goal

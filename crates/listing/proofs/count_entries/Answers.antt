@@ -1,14 +1,8 @@
 -- `listing::count_entries` meets its contract. The loop's invariant: the count and the entries of the sectors that the walk still meets are all entries.
-use borrow.Author.Rules.{rules}
-use native.Mathlib.Omega.{arith}
-use Prim.Native.Nat.{ℕ, ◌+◌}
-use mathlib.Core.Path.{◌≡◌, ap, ◌∙◌}
-use mathlib.Core.List.{List}
-use lib.ListN.{length}
+use Rattle.std.proofs.Common.{arith, ℕ, ◌+◌, ◌≡◌, ap, ◌∙◌, List, length}
 use Rattle.format.specs.Geometry.{Disc}
-use Rattle.format.specs.Layout.{in_use, slots_at, slots_of, entries}
+use Rattle.format.specs.Layout.{in_use, slots_at, slots_of}
 use Rattle.geometry.specs.Meaning.{geo, sectors_of}
-use Rattle.disc.specs.Meaning.{Inside}
 use Rattle.directory.specs.Meaning.{rest_of, Met}
 use Rattle.directory.specs.Laws.{stepped_to, stepped_end}
 use Rattle.listing.specs.Laws.{entries_are, entries_few, used_cons, used_over}

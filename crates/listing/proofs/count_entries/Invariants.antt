@@ -1,17 +1,9 @@
 -- `listing::count_entries` meets its contract. The loop's invariant: the count and the entries of the sectors that the walk still meets are all entries.
-use borrow.Author.Rules.{rules}
-use native.Mathlib.Omega.{arith}
-use Prim.Native.Nat.{ℕ, ◌+◌}
-use mathlib.Core.Path.{◌≡◌, ap, ◌∙◌}
-use mathlib.Core.List.{List}
-use lib.ListN.{length}
-use Rattle.format.specs.Geometry.{Disc}
-use Rattle.format.specs.Layout.{in_use, slots_at, slots_of, entries}
+use Rattle.std.proofs.Common.{◌+◌, ◌≡◌, length}
+use Rattle.format.specs.Layout.{in_use, slots_of, entries}
 use Rattle.geometry.specs.Meaning.{geo, sectors_of}
 use Rattle.disc.specs.Meaning.{Inside}
-use Rattle.directory.specs.Meaning.{rest_of, Met}
-use Rattle.directory.specs.Laws.{stepped_to, stepped_end}
-use Rattle.listing.specs.Laws.{entries_are, entries_few, used_cons, used_over}
+use Rattle.directory.specs.Meaning.{rest_of}
 use Rattle.listing.proofs.count_entries.Given as goal
 
 abbrev pub invariant-loop-n : goal.invariant-loop-n

@@ -1,14 +1,9 @@
 -- `listing::count_sector` meets its contract. The loop's invariant: the count and the entries from slot i on are all entries.
-use borrow.Author.Rules.{rules}
-use native.Mathlib.Omega.{arith}
-use Prim.Native.Nat.{◌+◌, ◌-◌, ◌≤◌}
-use mathlib.Core.Path.{◌≡◌, ap}
-use mathlib.Core.List.{List}
-use lib.ListN.{length}
+use Rattle.std.proofs.Common.{rules, arith, ap, List, length}
 use Rattle.format.specs.Geometry.{Disc}
-use Rattle.format.specs.Layout.{slots_each, Slot, in_use, slots_at}
+use Rattle.format.specs.Layout.{Slot, in_use}
 use Rattle.geometry.specs.Meaning.{sectors_of}
-use Rattle.slots.specs.InOrder.{slots_from, slots_all}
+use Rattle.slots.specs.InOrder.{slots_all}
 use Rattle.listing.specs.Laws.{used_step, used_few, used_end}
 use Rattle.listing.proofs.count_sector.Goals as goal
 

@@ -1,6 +1,5 @@
 -- `listing::list` meets its contract.
-use borrow.Author.Rules.{rules}
-use mathlib.Core.Path.{sym, ap, ◌∙◌}
+use Rattle.std.proofs.Common.{sym, ap, ◌∙◌}
 use Rattle.geometry.specs.Meaning.{kind_of}
 use Rattle.geometry.specs.Laws.{Opened, opened, geometry_wrong}
 use Rattle.answers.specs.declared.Filled.{Filled}

@@ -1,8 +1,5 @@
 -- `listing::list_on` meets its contract.
-use borrow.Author.Rules.{rules}
-use borrow.Author.Tests.{not-true, not-false}
-use mathlib.Core.Path.{◌≡◌, sym, ap, ◌∙◌}
-use mathlib.Core.Bool.{true}
+use Rattle.std.proofs.Common.{◌≡◌, sym, ap, ◌∙◌, true}
 use Rattle.format.specs.Check.{sound}
 use Rattle.geometry.specs.Meaning.{geo, sectors_of}
 use Rattle.answers.specs.declared.Filled.{Filled}

@@ -1,6 +1,5 @@
 -- `listing::listing_length` meets its contract.
-use borrow.Author.Rules.{rules}
-use native.Mathlib.Omega.{arith}
+use Rattle.std.proofs.Common.{arith}
 use Rattle.listing.specs.Laws.{listing_long}
 use Rattle.listing.proofs.listing_length.Goals as goal
 

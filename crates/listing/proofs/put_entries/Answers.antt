@@ -1,19 +1,13 @@
 -- `listing::put_entries` meets its contract. The loop's invariant: the records of the sectors that the walk still meets are left to store.
-use borrow.Author.Rules.{rules}
-use native.Mathlib.Omega.{arith}
-use Prim.Native.Nat.{ℕ}
-use mathlib.Core.Path.{◌≡◌, ap, sym, ◌∙◌}
-use mathlib.Core.List.{List, ◌++◌}
-use lib.ListN.{length}
+use Rattle.std.proofs.Common.{arith, ℕ, ◌≡◌, ap, sym, ◌∙◌, List, ◌++◌, length}
 use Rattle.format.specs.Geometry.{Disc}
-use Rattle.format.specs.Layout.{slots_at, slots_of, slots}
+use Rattle.format.specs.Layout.{slots_at, slots_of}
 use Rattle.geometry.specs.Meaning.{geo, sectors_of}
-use Rattle.disc.specs.Meaning.{Inside}
 use Rattle.directory.specs.Meaning.{rest_of, Met}
 use Rattle.directory.specs.Laws.{stepped_to, stepped_end, slots_none, slots_are}
 use Rattle.listing.specs.Meaning.{records_of}
 use Rattle.listing.specs.Laws.{records_none, records_cons}
-use Rattle.records.specs.Storing.{Storing, storing_all, storing_step, storing_room, storing_end}
+use Rattle.records.specs.Storing.{storing_all, storing_step, storing_room, storing_end}
 use Rattle.listing.proofs.put_entries.Goals as goal
 use Rattle.listing.proofs.put_entries.Goals.{In-Sector}
 
@@ -24,10 +18,10 @@ met : (c : In-Sector) → Met c.args.g c.args.image.now c.loop-n.rest c.in-Secto
 met c = stepped_to _ _ c.loop-n.rest c.in-Sector.is c.advance-next.ensures
 
 -- its records, and those of the sectors after it
-abbrev own : In-Sector  → List ℕ
+abbrev own : In-Sector → List ℕ
 own c = let a = c.args in records_of (slots_at (sectors_of a.g a.image.now) c.in-Sector.n.0)
 
-abbrev others : In-Sector  → List ℕ
+abbrev others : In-Sector → List ℕ
 others c =
     let a = c.args in
     records_of (slots_of (sectors_of a.g a.image.now) (rest_of a.g a.image.now c.in-Sector.after))

@@ -1,19 +1,11 @@
 -- `listing::put_entries` meets its contract. The loop's invariant: the records of the sectors that the walk still meets are left to store.
-use borrow.Author.Rules.{rules}
-use native.Mathlib.Omega.{arith}
-use Prim.Native.Nat.{ℕ}
-use mathlib.Core.Path.{◌≡◌, ap, sym, ◌∙◌}
-use mathlib.Core.List.{List, ◌++◌}
-use lib.ListN.{length}
-use Rattle.format.specs.Geometry.{Disc}
-use Rattle.format.specs.Layout.{slots_at, slots_of, slots}
+use Rattle.std.proofs.Common.{length}
+use Rattle.format.specs.Layout.{slots_of, slots}
 use Rattle.geometry.specs.Meaning.{geo, sectors_of}
 use Rattle.disc.specs.Meaning.{Inside}
-use Rattle.directory.specs.Meaning.{rest_of, Met}
-use Rattle.directory.specs.Laws.{stepped_to, stepped_end, slots_none, slots_are}
+use Rattle.directory.specs.Meaning.{rest_of}
 use Rattle.listing.specs.Meaning.{records_of}
-use Rattle.listing.specs.Laws.{records_none, records_cons}
-use Rattle.records.specs.Storing.{Storing, storing_all, storing_step, storing_room, storing_end}
+use Rattle.records.specs.Storing.{Storing}
 use Rattle.listing.proofs.put_entries.Given as goal
 
 abbrev pub invariant-loop-n : goal.invariant-loop-n

@@ -1,9 +1,5 @@
 -- `listing::put_entry` meets its contract.
-use borrow.Author.Rules.{rules}
-use native.Mathlib.Omega.{arith}
-use mathlib.Core.Path.{ap, ap₂, sym, ◌∙◌}
-use mathlib.Core.List.{List, [], ◌∷◌, ◌++◌, append_assoc}
-use Prim.Native.Nat.{ℕ, ◌+◌}
+use Rattle.std.proofs.Common.{arith, ap, ap₂, sym, ◌∙◌, List, [], ◌∷◌, ◌++◌, append_assoc, ℕ, ◌+◌}
 use Rattle.lists.specs.Lists.{word}
 use Rattle.format.specs.Layout.{Slot, name_of, length_of, attribute_of, slot_at}
 use Rattle.geometry.specs.Meaning.{sectors_of}

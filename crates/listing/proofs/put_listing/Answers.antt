@@ -1,6 +1,5 @@
 -- `listing::put_listing` meets its contract.
-use native.Mathlib.Omega.{arith}
-use lib.ListN.{length-set}
+use Rattle.std.proofs.Common.{arith, length-set}
 use Rattle.format.specs.Effects.{listing}
 use Rattle.geometry.specs.Meaning.{geo, sectors_of}
 use Rattle.listing.specs.Laws.{disc_long}

@@ -1,23 +1,19 @@
 -- `listing::put_sector_records` meets its contract. The loop's invariant: the records of the slots from slot i on are left to store.
-use borrow.Author.Rules.{rules}
-use native.Mathlib.Omega.{arith}
-use Prim.Native.Nat.{ℕ, ◌+◌, ◌-◌, ◌≤◌}
-use mathlib.Core.Path.{◌≡◌, ap, ◌∙◌}
-use mathlib.Core.List.{List, [], ◌∷◌, ◌++◌}
-use Rattle.format.specs.Layout.{slots_each, slot_at, slots_at}
+use Rattle.std.proofs.Common.{rules, arith, ℕ, ◌+◌, ◌≡◌, ap, ◌∙◌, List, [], ◌∷◌, ◌++◌}
+use Rattle.format.specs.Layout.{slot_at}
 use Rattle.geometry.specs.Meaning.{sectors_of}
 use Rattle.slots.specs.InOrder.{slots_from, slots_all, slots_end}
 use Rattle.listing.specs.Meaning.{records_of}
 use Rattle.listing.specs.Laws.{records_none, records_step}
-use Rattle.records.specs.Storing.{Storing, storing_all, storing_step, storing_room, storing_end}
+use Rattle.records.specs.Storing.{storing_all, storing_step, storing_room, storing_end}
 use Rattle.listing.proofs.put_sector_records.Goals as goal
 use Rattle.listing.proofs.put_sector_records.Goals.{In-loop-i}
 
 -- what the turn's slot adds, and what those after it add
-abbrev own : In-loop-i  → List ℕ
+abbrev own : In-loop-i → List ℕ
 own c = let a = c.args in records_of (slot_at (sectors_of a.g a.image.now) a.n.0 c.loop-i.i ∷ [])
 
-abbrev others : In-loop-i  → List ℕ
+abbrev others : In-loop-i → List ℕ
 others c = let a = c.args in records_of (slots_from (sectors_of a.g a.image.now) a.n.0 (c.loop-i.i + 1))
 
 left : (c : In-loop-i) → let a = c.args in records_of (slots_from (sectors_of a.g a.image.now) a.n.0 c.loop-i.i) ≡ own c ++ others c

@@ -1,15 +1,10 @@
 -- `listing::put_sector_records` meets its contract. The loop's invariant: the records of the slots from slot i on are left to store.
-use borrow.Author.Rules.{rules}
-use native.Mathlib.Omega.{arith}
-use Prim.Native.Nat.{ℕ, ◌+◌, ◌-◌, ◌≤◌}
-use mathlib.Core.Path.{◌≡◌, ap, ◌∙◌}
-use mathlib.Core.List.{List, [], ◌∷◌, ◌++◌}
-use Rattle.format.specs.Layout.{slots_each, slot_at, slots_at}
+use Rattle.std.proofs.Common.{◌-◌, ◌≤◌}
+use Rattle.format.specs.Layout.{slots_each, slots_at}
 use Rattle.geometry.specs.Meaning.{sectors_of}
-use Rattle.slots.specs.InOrder.{slots_from, slots_all, slots_end}
+use Rattle.slots.specs.InOrder.{slots_from}
 use Rattle.listing.specs.Meaning.{records_of}
-use Rattle.listing.specs.Laws.{records_none, records_step}
-use Rattle.records.specs.Storing.{Storing, storing_all, storing_step, storing_room, storing_end}
+use Rattle.records.specs.Storing.{Storing}
 use Rattle.listing.proofs.put_sector_records.Given as goal
 
 abbrev pub invariant-loop-i : goal.invariant-loop-i

@@ -1,9 +1,5 @@
 -- `listing::put_slot_record` meets its contract.
-use borrow.Author.Rules.{rules}
-use native.Mathlib.Omega.{arith}
-use mathlib.Core.Path.{◌≡◌, ap, sym, ◌∙◌}
-use mathlib.Core.List.{[], ◌∷◌}
-use lib.ListN.{length}
+use Rattle.std.proofs.Common.{arith, ◌≡◌, ap, sym, ◌∙◌, [], ◌∷◌, length}
 use Rattle.format.specs.Layout.{Slot, slot_at}
 use Rattle.geometry.specs.Meaning.{sectors_of}
 use Rattle.listing.specs.Meaning.{entry_record, records_of}
@@ -12,7 +8,7 @@ use Rattle.records.specs.Storing.{stored_as, stored_none}
 use Rattle.listing.proofs.put_slot_record.Goals as goal
 use Rattle.listing.proofs.put_slot_record.Goals.{After-slot_free, Else-slot_free}
 
-abbrev slot : After-slot_free  → Slot
+abbrev slot : After-slot_free → Slot
 slot c = let a = c.args in slot_at (sectors_of a.g a.image.now) a.n.0 a.i
 
 one : (c : Else-slot_free) → records_of ((let a = c.args in slot_at (sectors_of a.g a.image.now) a.n.0 a.i) ∷ []) ≡ entry_record ((let a = c.args in slot_at (sectors_of a.g a.image.now) a.n.0 a.i))

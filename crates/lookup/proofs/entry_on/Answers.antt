@@ -1,6 +1,5 @@
 -- `lookup::entry_on` meets its contract.
-use borrow.Author.Rules.{rules}
-use mathlib.Core.Path.{sym, subst}
+use Rattle.std.proofs.Common.{sym, subst}
 use Rattle.answers.specs.Laws.{refuses_then}
 use Rattle.lookup.specs.Meaning.{entry_on, Judges}
 use Rattle.lookup.specs.Laws.{entry_slot}

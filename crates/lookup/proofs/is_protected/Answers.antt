@@ -1,6 +1,5 @@
 -- `lookup::is_protected` meets its contract.
-use borrow.Author.Rules.{rules}
-use mathlib.Core.Path.{ap, ◌∙◌}
+use Rattle.std.proofs.Common.{ap, ◌∙◌}
 use Rattle.format.specs.Layout.{is_protected}
 use Rattle.lookup.proofs.is_protected.Goals as goal
 

@@ -1,7 +1,6 @@
 -- `lookup::name_on` meets its contract.
-use borrow.Author.Rules.{rules}
+use Rattle.std.proofs.Common.{◌≡◌, refl, sym, ap, ◌∙◌}
 use borrow.Author.Tests.{not-true, not-false}
-use mathlib.Core.Path.{◌≡◌, refl, sym, ap, ◌∙◌}
 use mathlib.Core.Option.{some}
 use Rattle.format.specs.Refusals.{NAME, UNSOUND}
 use Rattle.format.specs.Names.{stored}

@@ -1,6 +1,5 @@
 -- `lookup::slot_of` meets its contract.
-use borrow.Author.Rules.{rules}
-use mathlib.Core.Path.{sym, ap, subst, ◌∙◌}
+use Rattle.std.proofs.Common.{sym, ap, subst, ◌∙◌}
 use Rattle.format.specs.Refusals.{ABSENT}
 use Rattle.directory.specs.Meaning.{found_of, Within}
 use Rattle.answers.specs.Laws.{refuses_is}

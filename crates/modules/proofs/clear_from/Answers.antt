@@ -1,9 +1,6 @@
 -- `modules::clear_from` meets its contract: zeros stored in the image lie in the sector that starts there.
-use borrow.Author.Rules.{rules}
-use native.Mathlib.Omega.{arith}
-use Prim.Native.Nat.{ℕ, ◌+◌, ◌-◌}
-use mathlib.Core.Path.{◌≡◌, ap, ap₂, ◌∙◌}
-use lib.ListN.{replicate, length-replicate}
+use Rattle.std.proofs.Common.{arith, ℕ, ◌+◌, ◌-◌, ◌≡◌, ap, ap₂, ◌∙◌, replicate}
+use lib.ListN.{length-replicate}
 use lib.Seq.{sets}
 use Rattle.geometry.specs.Laws.{each_once}
 use Rattle.format.specs.GeometryLaws.{sets_cut}

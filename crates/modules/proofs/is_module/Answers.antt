@@ -1,11 +1,6 @@
 -- `modules::is_module` meets its contract.
-use borrow.Author.Rules.{rules}
-use borrow.Author.Tests.{not-true, not-false, le-leb, lt-leb, leb-true, leb-false}
-use native.Mathlib.Omega.{arith}
-use Prim.Native.Nat.{ℕ, ◌+◌, ◌-◌, ◌≤◌, ◌<◌}
-use mathlib.Core.Path.{◌≡◌, refl, sym, ◌∙◌}
-use mathlib.Core.Bool.{Bool, true, false}
-use lib.Dec.{leb}
+use Rattle.std.proofs.Common.{le-leb, leb-true, leb-false, arith, ℕ, ◌+◌, ◌-◌, ◌≤◌, ◌<◌, ◌≡◌, refl, sym, ◌∙◌, Bool, true, false, leb}
+use borrow.Author.Tests.{lt-leb}
 use Rattle.modules.proofs.is_module.Goals as goal
 use Rattle.modules.proofs.is_module.Goals.{Else-not-is_page}
 

@@ -1,11 +1,5 @@
 -- `modules::part_len` meets its contract.
-use mathlib.Core.Path.{◌≡◌, sym, ap, ◌∙◌}
-use Prim.Native.Nat.{ℕ, ◌-◌}
-use native.Mathlib.Omega.{arith}
-use mathlib.Core.List.{List}
-use lib.ListN.{length, drop, length-drop}
-use lib.Seq.{take_all, length-take-le}
-use borrow.Author.Rules.{rules}
+use Rattle.std.proofs.Common.{◌≡◌, sym, ap, ◌∙◌, ℕ, ◌-◌, arith, List, length, drop, length-drop, take_all, length-take-le}
 use Rattle.modules.proofs.part_len.Goals as goal
 
 pub returns-then-left-most : goal.returns-then-left-most

@@ -1,7 +1,5 @@
 -- `modules::put_body` meets its contract: the four stores are the whole sector.
-use mathlib.Core.Path.{refl}
-use native.Mathlib.Omega.{arith}
-use borrow.Author.Rules.{rules}
+use Rattle.std.proofs.Common.{refl, arith}
 use Rattle.geometry.specs.Laws.{image_full}
 use Rattle.format.specs.GeometryLaws.{sector_full}
 use Rattle.format.specs.Layout.{link_bytes}

@@ -1,8 +1,5 @@
 -- `modules::put_first` meets its contract.
-use Prim.Native.Nat.{◌-◌}
-use native.Mathlib.Omega.{arith}
-use lib.ListN.{length-take}
-use borrow.Author.Rules.{rules}
+use Rattle.std.proofs.Common.{◌-◌, arith, length-take}
 use Rattle.modules.specs.Meaning.{module_of}
 use Rattle.modules.specs.Laws.{first_part}
 use Rattle.modules.proofs.put_first.Goals as goal

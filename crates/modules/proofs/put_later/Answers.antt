@@ -1,7 +1,5 @@
 -- `modules::put_later` meets its contract.
-use Prim.Native.Nat.{◌+◌, ◌-◌}
-use native.Mathlib.Omega.{arith}
-use borrow.Author.Rules.{rules}
+use Rattle.std.proofs.Common.{◌+◌, ◌-◌, arith}
 use Rattle.modules.specs.Laws.{later_part}
 use Rattle.modules.proofs.put_later.Goals as goal
 

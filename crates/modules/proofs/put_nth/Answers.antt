@@ -1,8 +1,5 @@
 -- `modules::put_nth` meets its contract.
-use Prim.Native.Nat.{◌+◌, ◌*◌, ◌-◌, ◌≤◌}
-use native.Mathlib.Omega.{arith}
-use lib.ListN.{length}
-use borrow.Author.Rules.{rules}
+use Rattle.std.proofs.Common.{◌+◌, ◌*◌, ◌-◌, ◌≤◌, arith, length}
 use Rattle.format.specs.ModuleLaws.{sectors_fit}
 use Rattle.modules.specs.Meaning.{module_of}
 use Rattle.modules.specs.Laws.{body_first, body_later}

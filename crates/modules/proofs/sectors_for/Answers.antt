@@ -1,6 +1,5 @@
 -- `modules::sectors_for` meets its contract.
-use mathlib.Core.Path.{sym}
-use borrow.Author.Rules.{rules}
+use Rattle.std.proofs.Common.{sym}
 use Rattle.format.specs.ModuleLaws.{sectors_one, sectors_more}
 use Rattle.modules.proofs.sectors_for.Goals as goal
 

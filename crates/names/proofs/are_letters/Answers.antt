@@ -1,13 +1,8 @@
 -- `names::are_letters` meets its contract. The loop's invariant: the length is right and all bytes before i are letters, so the rest decides.
-use borrow.Author.Rules.{rules}
-use borrow.Author.Tests.{lt-leb, le-leb, not-true, not-false}
-use native.Mathlib.Omega.{arith}
-use Prim.Native.Nat.{◌-◌, ◌≤◌}
-use mathlib.Core.Path.{◌≡◌}
+use Rattle.std.proofs.Common.{rules, le-leb, arith, length}
+use borrow.Author.Tests.{lt-leb}
 use mathlib.Core.Bool.{and-false}
-use lib.ListN.{length, drop}
-use Rattle.lists.specs.Lists.{all}
-use Rattle.format.specs.Names.{letter, letters}
+use Rattle.format.specs.Names.{letters}
 use Rattle.names.specs.Laws.{all_drop, all_end}
 use Rattle.names.proofs.are_letters.Goals as goal
 

@@ -1,9 +1,5 @@
 -- `names::copy_at` meets its contract.
-use borrow.Author.Rules.{rules}
-use Prim.Native.Nat.{ℕ, ◌+◌}
-use mathlib.Core.Path.{sym, ap, ◌∙◌}
-use mathlib.Core.List.{List, ◌++◌}
-use lib.ListN.{length, take, drop}
+use Rattle.std.proofs.Common.{rules, ℕ, ◌+◌, sym, ap, ◌∙◌, List, ◌++◌, length, take, drop}
 use lib.Seq.{sets-eq, take-length}
 use Rattle.names.proofs.copy_at.Goals as goal
 

@@ -1,5 +1,5 @@
 -- `names::disc_name` meets its contract.
-use borrow.Author.Rules.{rules}
+use Rattle.std.proofs.Common.{rules}
 use Rattle.format.specs.Names.{disc_name}
 use Rattle.names.proofs.disc_name.Goals as goal
 

@@ -1,7 +1,5 @@
 -- `names::file_name` meets its contract.
-use borrow.Author.Rules.{rules}
-use mathlib.Core.Path.{ap, sym, ◌∙◌}
-use lib.Seq.{length-take-le}
+use Rattle.std.proofs.Common.{rules, ap, sym, ◌∙◌, length-take-le}
 use Rattle.names.specs.Answer.{parsed}
 use Rattle.names.specs.Laws.{take_rest, stored_dotted, stored_plain, stored_long}
 use Rattle.names.proofs.file_name.Goals as goal

@@ -1,7 +1,7 @@
 -- `names::is_letter` meets its contract.
+use Rattle.std.proofs.Common.{arith, le-leb}
 use mathlib.Core.Bool.{and-false, or-false}
-use native.Mathlib.Omega.{arith}
-use borrow.Author.Tests.{le-leb, lt-leb}
+use borrow.Author.Tests.{lt-leb}
 use Rattle.format.specs.Names.{letter}
 use Rattle.names.proofs.is_letter.Goals as goal
 

@@ -1,6 +1,5 @@
 -- `names::pad` meets its contract.
-use borrow.Author.Rules.{rules}
-use mathlib.Core.Path.{◌∙◌}
+use Rattle.std.proofs.Common.{◌∙◌}
 use Rattle.format.specs.Names.{space}
 use Rattle.names.specs.Laws.{paste_padded}
 use Rattle.names.proofs.pad.Goals as goal

@@ -1,8 +1,5 @@
 -- `names::padded_letters` meets its contract.
-use borrow.Author.Rules.{rules}
-use borrow.Author.Tests.{not-true, not-false}
-use native.Mathlib.Omega.{arith}
-use mathlib.Core.Path.{sym, ◌∙◌}
+use Rattle.std.proofs.Common.{arith, sym, ◌∙◌}
 use Rattle.names.specs.Laws.{letters_few}
 use Rattle.names.proofs.padded_letters.Goals as goal
 

@@ -1,12 +1,6 @@
 -- `names::with_extension` meets its contract.
-use borrow.Author.Rules.{rules}
-use borrow.Author.Tests.{not-true, not-false}
-use native.Mathlib.Omega.{arith}
-use Prim.Native.Nat.{ℕ, ◌≤◌}
-use mathlib.Core.Path.{◌≡◌, ap, sym, ◌∙◌}
-use mathlib.Core.Bool.{true, and-false}
-use mathlib.Core.List.{List}
-use lib.ListN.{length}
+use Rattle.std.proofs.Common.{arith, ℕ, ◌≤◌, ◌≡◌, ap, sym, ◌∙◌, true, List, length}
+use mathlib.Core.Bool.{and-false}
 use lib.Seq.{paste}
 use Rattle.format.specs.Names.{letters, nine_bytes, with_extension}
 use Rattle.names.specs.Laws.{paste_extension, letters_few}

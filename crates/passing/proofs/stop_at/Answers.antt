@@ -1,8 +1,5 @@
 -- `passing::stop_at` meets its contract.
-use mathlib.Core.Path.{subst}
-use Prim.Native.Nat.{ℕ, ◌+◌, ◌≤◌}
-use native.Mathlib.Omega.{arith}
-use borrow.Author.Rules.{rules}
+use Rattle.std.proofs.Common.{subst, ℕ, ◌+◌, ◌≤◌, arith}
 use Rattle.format.specs.Formats.{order_range}
 use Rattle.geometry.specs.Laws.{good}
 use Rattle.passing.specs.Meaning.{Stop}

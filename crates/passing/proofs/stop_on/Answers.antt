@@ -1,9 +1,5 @@
 -- `passing::stop_on` meets its contract. Nothing wraps: a sector ends within the image.
-use mathlib.Core.Path.{◌≡◌}
-use mathlib.Core.Bool.{true}
-use Prim.Native.Nat.{◌+◌, ◌*◌, ◌/◌, ◌%◌}
-use native.Mathlib.Omega.{arith}
-use borrow.Author.Rules.{rules}
+use Rattle.std.proofs.Common.{◌≡◌, true, ◌+◌, ◌*◌, ◌/◌, ◌%◌, arith}
 use Rattle.format.specs.Geometry.{sector_number, on_disc}
 use Rattle.format.specs.GeometryLaws.{is_on_disc}
 use Rattle.geometry.specs.Meaning.{geo, Starts}

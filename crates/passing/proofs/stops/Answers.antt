@@ -1,13 +1,6 @@
 -- `passing::stops` meets its contract.
-use mathlib.Core.Path.{◌≡◌, refl, ◌∙◌}
-use Prim.Native.Nat.{ℕ, ◌-◌, ◌≤◌, ◌<◌}
-use native.Mathlib.Omega.{arith}
+use Rattle.std.proofs.Common.{refl, ◌∙◌, arith, length-set, get_or-set_same, get_or-set_other}
 use native.Mathlib.Decide.{ℕ_discrete}
-use borrow.Author.Rules.{rules}
-use lib.ListN.{length, get_or, length-set}
-use lib.Seq.{get_or-set_same, get_or-set_other}
-use Rattle.geometry.specs.Meaning.{geo}
-use Rattle.passing.specs.Meaning.{Stop}
 use Rattle.passing.proofs.stops.Goals as goal
 
 pub loop-i-init : goal.loop-i-init

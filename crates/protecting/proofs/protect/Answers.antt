@@ -1,6 +1,5 @@
 -- `protecting::protect` meets its contract.
-use borrow.Author.Rules.{rules}
-use mathlib.Core.Path.{sym, ◌∙◌}
+use Rattle.std.proofs.Common.{rules, sym, ◌∙◌}
 use Rattle.format.specs.Geometry.{Geometry, Disc}
 use Rattle.format.specs.Calls.{protect_on, after_protect}
 use Rattle.geometry.specs.Meaning.{kind_of}

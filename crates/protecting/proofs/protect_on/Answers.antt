@@ -1,6 +1,5 @@
 -- `protecting::protect_on` meets its contract.
-use borrow.Author.Rules.{rules}
-use mathlib.Core.Path.{◌≡◌}
+use Rattle.std.proofs.Common.{rules, ◌≡◌}
 use Rattle.geometry.specs.Meaning.{geo, sectors_of}
 use Rattle.answers.specs.Listed.{refuses_lists, lists_as}
 use Rattle.lookup.specs.declared.Judged.{Judged}

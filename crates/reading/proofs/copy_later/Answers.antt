@@ -1,6 +1,5 @@
 -- `reading::copy_later` meets its contract.
-use native.Mathlib.Omega.{arith}
-use borrow.Author.Rules.{rules}
+use Rattle.std.proofs.Common.{arith}
 use Rattle.format.specs.GeometryLaws.{sector_full}
 use Rattle.geometry.specs.Laws.{image_full}
 use Rattle.reading.specs.CopyLaws.{copied_whole}

@@ -1,9 +1,5 @@
 -- `reading::copy_part` meets its contract: the part of the image that is copied is the part of the sector.
-use borrow.Author.Rules.{rules}
-use native.Mathlib.Omega.{arith}
-use Prim.Native.Nat.{ℕ, ◌+◌, ◌-◌}
-use mathlib.Core.Path.{◌≡◌, sym, ap, ap₂, ◌∙◌}
-use lib.ListN.{length, take, drop, length-take, length-drop}
+use Rattle.std.proofs.Common.{arith, ℕ, ◌+◌, ◌-◌, ◌≡◌, sym, ap, ap₂, ◌∙◌, length, take, drop, length-take, length-drop}
 use lib.Seq.{sets, slice}
 use Rattle.lists.specs.ListLaws.{drop_take}
 use Rattle.format.specs.Geometry.{start_of, sector}

@@ -1,8 +1,5 @@
 -- `reading::filled_at` meets its contract.
-use mathlib.Core.Path.{◌≡◌, sym, ◌∙◌}
-use native.Mathlib.Omega.{arith}
-use lib.ListN.{length}
-use borrow.Author.Rules.{rules}
+use Rattle.std.proofs.Common.{◌≡◌, sym, ◌∙◌, arith, length}
 use Rattle.geometry.specs.Laws.{image_full}
 use Rattle.format.specs.Geometry.{sector}
 use Rattle.format.specs.GeometryLaws.{sector_full}

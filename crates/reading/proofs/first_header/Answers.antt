@@ -1,10 +1,5 @@
 -- `reading::first_header` meets its contract: one law for each answer.
-use mathlib.Core.Path.{◌≡◌, sym, ap, ◌∙◌}
-use mathlib.Core.Bool.{Bool, cond}
-use mathlib.Core.List.{List}
-use Prim.Native.Nat.{ℕ}
-use native.Mathlib.Omega.{arith}
-use borrow.Author.Rules.{rules}
+use Rattle.std.proofs.Common.{◌≡◌, sym, ap, ◌∙◌, Bool, cond, List, ℕ, arith}
 use borrow.Author.Tests.{not-true, not-false}
 use Rattle.format.specs.Geometry.{sector}
 use Rattle.format.specs.Effects.{body}
@@ -19,7 +14,7 @@ use Rattle.reading.proofs.first_header.Goals.{After-filled_at, After-numbers_of-
 
 -- ---- places: the function's start; where the numbers are read; where the sectors are counted
 
-abbrev bytes : After-numbers_of-header  → List ℕ
+abbrev bytes : After-numbers_of-header → List ℕ
 bytes c = let a = c.args in sector (sectors_of a.g a.image.now) a.s.number.0
 
 -- what the test of the last part decides

@@ -1,7 +1,5 @@
 -- `reading::next_of` meets its contract.
-use mathlib.Core.Path.{◌≡◌, ap, ap₂, ◌∙◌}
-use mathlib.Core.Bool.{true}
-use borrow.Author.Rules.{rules}
+use Rattle.std.proofs.Common.{◌≡◌, ap, ap₂, ◌∙◌, true}
 use Rattle.format.specs.Geometry.{go, pointed, sector}
 use Rattle.format.specs.Layout.{link_of}
 use Rattle.geometry.specs.Meaning.{geo, sectors_of}

@@ -1,5 +1,4 @@
 -- `reading::numbers_of` meets its contract.
-use borrow.Author.Rules.{rules}
 use Rattle.format.specs.Geometry.{sector}
 use Rattle.geometry.specs.Meaning.{sectors_of}
 use Rattle.reading.specs.FileLaws.{numbers_read}

@@ -1,7 +1,5 @@
 -- `reading::numbers_ok` meets its contract.
-use borrow.Author.Rules.{rules}
-use borrow.Author.Tests.{not-true, not-false, eq-eqb, ne_eqb}
-use mathlib.Core.Path.{sym, ◌∙◌}
+use Rattle.std.proofs.Common.{eq-eqb, ne_eqb, sym, ◌∙◌}
 use Rattle.reading.proofs.numbers_ok.Goals as goal
 
 pub returns-then-mark-ne-MODULE : goal.returns-then-mark-ne-MODULE

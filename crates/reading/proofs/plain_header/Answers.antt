@@ -1,8 +1,5 @@
 -- `reading::plain_header` meets its contract: one law for each answer.
-use mathlib.Core.Path.{◌≡◌, sym, ap, ◌∙◌}
-use mathlib.Core.Bool.{Bool, cond}
-use native.Mathlib.Omega.{arith}
-use borrow.Author.Rules.{rules}
+use Rattle.std.proofs.Common.{◌≡◌, sym, ap, ◌∙◌, Bool, cond, arith}
 use borrow.Author.Tests.{not-true, not-false}
 use Rattle.format.specs.Modules.{plain}
 use Rattle.reading.specs.Meaning.{not_plain, header_of, file_bodies}

@@ -1,6 +1,5 @@
 -- `reading::read` meets its contract.
-use borrow.Author.Rules.{rules}
-use mathlib.Core.Path.{sym, ap, ◌∙◌}
+use Rattle.std.proofs.Common.{sym, ap, ◌∙◌}
 use Rattle.geometry.specs.Meaning.{kind_of}
 use Rattle.geometry.specs.Laws.{Opened, opened, geometry_wrong}
 use Rattle.reading.specs.Answer.{read_answer}

@@ -1,10 +1,5 @@
 -- `reading::read_file` meets its contract.
-use borrow.Author.Rules.{rules}
-use mathlib.Core.Path.{◌≡◌, sym, ap, ◌∙◌}
-use mathlib.Core.Option.{Option}
-use mathlib.Core.List.{List}
-use Prim.Native.Nat.{ℕ, ◌<◌}
-use lib.ListN.{length}
+use Rattle.std.proofs.Common.{◌≡◌, sym, ap, ◌∙◌, Option, List, ℕ, ◌<◌, length}
 use Rattle.format.specs.Geometry.{go}
 use Rattle.format.specs.Layout.{slot_at, first_of}
 use Rattle.format.specs.Modules.{Module}
@@ -19,7 +14,7 @@ use Rattle.reading.proofs.read_file.Goals.{In-To}
 
 -- ---- places: the function's start; where the entry is read; where its first sector is known
 
-abbrev first : In-To  → ℕ
+abbrev first : In-To → ℕ
 first c = c.in-To.first.0
 
 starts : (c : In-To) → let a = c.args in

@@ -1,10 +1,6 @@
 -- `reading::read_module` meets its contract: one law for each answer.
-use borrow.Author.Rules.{rules}
+use Rattle.std.proofs.Common.{arith, ◌≡◌, sym, ap, subst, ◌∙◌, List, ℕ}
 use borrow.Author.Tests.{not-true, not-false}
-use native.Mathlib.Omega.{arith}
-use mathlib.Core.Path.{◌≡◌, sym, ap, subst, ◌∙◌}
-use mathlib.Core.List.{List}
-use Prim.Native.Nat.{ℕ}
 use Rattle.format.specs.Refusals.{NOT-PLAIN, SHORT}
 use Rattle.format.specs.Modules.{plain}
 use Rattle.answers.specs.Laws.{refuses_is}

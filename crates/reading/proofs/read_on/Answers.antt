@@ -1,10 +1,5 @@
 -- `reading::read_on` meets its contract.
-use borrow.Author.Rules.{rules}
-use borrow.Author.Tests.{eqb-true}
-use mathlib.Core.Path.{◌≡◌, sym, ap, ◌∙◌}
-use mathlib.Core.List.{List}
-use Prim.Native.Nat.{ℕ}
-use lib.ListN.{length}
+use Rattle.std.proofs.Common.{eqb-true, ◌≡◌, sym, ap, ◌∙◌, List, ℕ, length}
 use Rattle.format.specs.Calls.{read_answer_by}
 use Rattle.soundness.specs.Laid.{sound_laid}
 use Rattle.soundness.specs.Found.{found}

@@ -1,10 +1,6 @@
 -- `reading::zero_from` meets its contract: the part of the image that is looked at is the end of the sector.
-use borrow.Author.Rules.{rules}
-use native.Mathlib.Omega.{arith}
-use Prim.Native.Nat.{ℕ, ◌+◌}
-use mathlib.Core.Path.{sym, ap, ◌∙◌}
+use Rattle.std.proofs.Common.{arith, ℕ, ◌+◌, sym, ap, ◌∙◌, eqb}
 use lib.Seq.{slice}
-use lib.Dec.{eqb}
 use Rattle.lists.specs.Lists.{all}
 use Rattle.reading.specs.SectorLaws.{sector_from}
 use Rattle.reading.proofs.zero_from.Goals as goal

@@ -1,10 +1,5 @@
 -- `records::put_record` meets its contract.
-use borrow.Author.Rules.{rules}
-use native.Mathlib.Omega.{arith}
-use mathlib.Core.Path.{◌≡◌, refl, ap, ◌∙◌}
-use mathlib.Core.List.{List}
-use Prim.Native.Nat.{ℕ, ◌+◌}
-use lib.ListN.{length, length-set}
+use Rattle.std.proofs.Common.{arith, ◌≡◌, refl, ap, ◌∙◌, List, ℕ, ◌+◌, length, length-set}
 use lib.Seq.{sets, length-sets}
 use Rattle.records.specs.Storing.{stored_three}
 use Rattle.records.proofs.put_record.Goals as goal

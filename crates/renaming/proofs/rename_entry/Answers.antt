@@ -1,8 +1,5 @@
 -- `renaming::rename_entry` meets its contract.
-use borrow.Author.Rules.{rules}
-use mathlib.Core.Path.{◌≡◌, sym, ap, ◌∙◌}
-use mathlib.Core.Bool.{false}
-use lib.ListN.{length}
+use Rattle.std.proofs.Common.{rules, ◌≡◌, sym, ap, ◌∙◌, false, length}
 use Rattle.format.specs.Refusals.{PROTECTED, TAKEN}
 use Rattle.format.specs.Layout.{slot_at, attribute_of, is_protected, find}
 use Rattle.geometry.specs.Meaning.{geo, sectors_of}

@@ -1,7 +1,6 @@
 -- `renaming::rename_on` meets its contract.
-use borrow.Author.Rules.{rules}
+use Rattle.std.proofs.Common.{◌≡◌, sym, ap, ◌∙◌}
 use borrow.Author.Tests.{not-true, not-false}
-use mathlib.Core.Path.{◌≡◌, sym, ap, ◌∙◌}
 use mathlib.Core.Option.{some}
 use Rattle.format.specs.Refusals.{NAME}
 use Rattle.format.specs.Names.{stored}

@@ -1,6 +1,5 @@
 -- `repairing::repair` meets its contract.
-use borrow.Author.Rules.{rules}
-use mathlib.Core.Path.{sym, ◌∙◌}
+use Rattle.std.proofs.Common.{rules, sym, ◌∙◌}
 use Rattle.format.specs.Geometry.{Geometry, Disc}
 use Rattle.format.specs.Calls.{repair_on, after_repair}
 use Rattle.geometry.specs.Meaning.{kind_of}

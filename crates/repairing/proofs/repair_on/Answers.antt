@@ -1,5 +1,4 @@
 -- `repairing::repair_on` meets its contract.
-use borrow.Author.Rules.{rules}
 use Rattle.format.specs.Refusals.{UNSOUND}
 use Rattle.format.specs.CallLaws.{repair_refused, repair_done}
 use Rattle.geometry.specs.Meaning.{geo, sectors_of}

@@ -1,11 +1,8 @@
 -- `repairing::thread` meets its contract: from the first position of a track on, the chain is written.
-use borrow.Author.Rules.{rules}
-use native.Mathlib.Omega.{arith}
-use Prim.Native.Nat.{ℕ, ◌+◌, ◌*◌, ◌-◌, ◌≤◌}
-use mathlib.Core.Path.{◌≡◌, refl, sym, ap, ◌∙◌}
+use Rattle.std.proofs.Common.{arith, ℕ, ◌+◌, ◌*◌, ◌-◌, ◌≡◌, refl, sym, ap, ◌∙◌}
 use Rattle.geometry.specs.Meaning.{geo}
 use Rattle.geometry.specs.Laws.{image_kept}
-use Rattle.repairing.specs.Meaning.{Threaded, thread_as, thread_start}
+use Rattle.repairing.specs.Meaning.{thread_as, thread_start}
 use Rattle.repairing.proofs.thread.Goals as goal
 use Rattle.repairing.proofs.thread.Goals.{In-loop-track}
 
@@ -26,13 +23,12 @@ loop-track-init c =
     (omega arith, omega (arith, v.total), thread_start v _ _ _ (sym v.total) _ refl refl)
 
 pub thread_track-chain-requires : goal.thread_track-chain-requires
-thread_track-chain-requires c =
-    (
-      image_kept c.requires c.loop-track.invariant.2.kept,
-      c.stops-stops.ensures,
-      omega (arith, c.loop-track.invariant.0, c.loop-track-test.true),
-      omega (arith, c.loop-track.invariant.1, track_ends (goal.at.thread_track-chain-requires c).In-loop-track),
-    )
+thread_track-chain-requires c = (
+  image_kept c.requires c.loop-track.invariant.2.kept,
+  c.stops-stops.ensures,
+  omega (arith, c.loop-track.invariant.0, c.loop-track-test.true),
+  omega (arith, c.loop-track.invariant.1, track_ends (goal.at.thread_track-chain-requires c).In-loop-track),
+)
 
 pub loop-track-preserved : goal.loop-track-preserved
 loop-track-preserved c =

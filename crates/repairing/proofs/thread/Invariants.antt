@@ -1,11 +1,7 @@
 -- `repairing::thread` meets its contract: from the first position of a track on, the chain is written.
-use borrow.Author.Rules.{rules}
-use native.Mathlib.Omega.{arith}
-use Prim.Native.Nat.{ℕ, ◌+◌, ◌*◌, ◌-◌, ◌≤◌}
-use mathlib.Core.Path.{◌≡◌, refl, sym, ap, ◌∙◌}
+use Rattle.std.proofs.Common.{◌+◌, ◌*◌, ◌≤◌}
 use Rattle.geometry.specs.Meaning.{geo}
-use Rattle.geometry.specs.Laws.{image_kept}
-use Rattle.repairing.specs.Meaning.{Threaded, thread_as, thread_start}
+use Rattle.repairing.specs.Meaning.{Threaded}
 use Rattle.repairing.proofs.thread.Given as goal
 
 abbrev pub invariant-loop-track : goal.invariant-loop-track

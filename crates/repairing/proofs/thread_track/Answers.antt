@@ -1,22 +1,18 @@
 -- `repairing::thread_track` meets its contract: at each turn the chain begins at position i of the track.
-use borrow.Author.Rules.{rules}
-use native.Mathlib.Omega.{arith}
-use Prim.Native.Nat.{ℕ, ◌+◌, ◌*◌, ◌-◌, ◌≤◌, ◌<◌}
-use mathlib.Core.Path.{◌≡◌, refl, ◌∙◌}
-use lib.ListN.{length, get_or}
+use Rattle.std.proofs.Common.{rules, arith, ℕ, ◌+◌, ◌*◌, ◌-◌, ◌<◌, ◌≡◌, refl, ◌∙◌, get_or}
 use Rattle.geometry.specs.Meaning.{geo, Valid}
 use Rattle.geometry.specs.Laws.{image_kept}
 use Rattle.passing.specs.Meaning.{Stop}
 use Rattle.passing.specs.Stops.{stop_sector}
 use Rattle.passing.specs.Positions.{next_track, passed_here, here_stop}
-use Rattle.repairing.specs.Meaning.{Extends, extend_none, extend_skip, extend_more, extend_end}
+use Rattle.repairing.specs.Meaning.{extend_none, extend_skip, extend_more, extend_end}
 use Rattle.repairing.proofs.thread_track.Goals as goal
 use Rattle.repairing.proofs.thread_track.Goals.{In-loop-i}
 
 -- ---- places: the function's start; a turn of the loop, where its stop is read, where its sector is known, and where it is linked
 
 -- the position of the turn
-abbrev position : In-loop-i  → ℕ
+abbrev position : In-loop-i → ℕ
 position c = c.loop-i.i - 1
 
 valid : (c : In-loop-i) → Valid c.args.g

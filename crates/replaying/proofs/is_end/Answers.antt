@@ -1,6 +1,5 @@
 -- `replaying::is_end` meets its contract.
-use borrow.Author.Rules.{rules}
-use borrow.Author.Tests.{eq-eqb, ne_eqb}
+use Rattle.std.proofs.Common.{eq-eqb, ne_eqb}
 use Rattle.replaying.specs.Meaning.{is_end}
 use Rattle.replaying.proofs.is_end.Goals as goal
 

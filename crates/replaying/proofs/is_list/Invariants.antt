@@ -1,14 +1,8 @@
 -- `replaying::is_list` meets its contract.
-use borrow.Author.Rules.{rules}
-use borrow.Author.Tests.{not-true, not-false}
-use native.Mathlib.Omega.{arith}
-use Prim.Native.Nat.{◌-◌, ◌≤◌}
-use mathlib.Core.Path.{◌≡◌, refl, sym, ◌∙◌}
-use lib.ListN.{length, drop}
+use Rattle.std.proofs.Common.{◌-◌, ◌≤◌, ◌≡◌, length, drop}
 use Rattle.lists.specs.Lists.{is_some}
 use Rattle.format.specs.Writes.{held}
 use Rattle.geometry.specs.Meaning.{geo}
-use Rattle.replaying.specs.Laws.{record_bad, rest_on, end_is}
 use Rattle.replaying.proofs.is_list.Given as goal
 
 abbrev pub invariant-loop-at : goal.invariant-loop-at

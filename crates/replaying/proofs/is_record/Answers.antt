@@ -1,9 +1,5 @@
 -- `replaying::is_record` meets its contract.
-use borrow.Author.Rules.{rules}
-use borrow.Author.Tests.{eq-eqb, ne_eqb}
-use native.Mathlib.Omega.{arith}
-use Prim.Native.Nat.{◌+◌}
-use mathlib.Core.Path.{◌∙◌}
+use Rattle.std.proofs.Common.{eq-eqb, ne_eqb, arith, ◌+◌, ◌∙◌}
 use Rattle.replaying.specs.Meaning.{is_record}
 use Rattle.replaying.proofs.is_record.Goals as goal
 

@@ -1,6 +1,5 @@
 -- `replaying::replay` meets its contract.
-use borrow.Author.Rules.{rules}
-use mathlib.Core.Path.{sym, ◌∙◌}
+use Rattle.std.proofs.Common.{rules, sym, ◌∙◌}
 use Rattle.format.specs.Geometry.{Geometry, Disc}
 use Rattle.format.specs.Calls.{replay_on, after_replay}
 use Rattle.geometry.specs.Meaning.{kind_of}

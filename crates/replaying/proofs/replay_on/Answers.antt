@@ -1,8 +1,5 @@
 -- `replaying::replay_on` meets its contract.
-use borrow.Author.Rules.{rules}
-use borrow.Author.Tests.{not-true, not-false}
-use mathlib.Core.Path.{◌≡◌, sym, ◌∙◌}
-use mathlib.Core.Bool.{true}
+use Rattle.std.proofs.Common.{rules, ◌≡◌, sym, ◌∙◌, true}
 use Rattle.lists.specs.Lists.{is_some}
 use Rattle.format.specs.Refusals.{BAD-LIST}
 use Rattle.format.specs.Writes.{held}

@@ -1,9 +1,5 @@
 -- `replaying::replay_record` meets its contract.
-use borrow.Author.Rules.{rules}
-use native.Mathlib.Omega.{arith}
-use Prim.Native.Nat.{◌+◌}
-use mathlib.Core.Path.{ap₂, ◌∙◌}
-use lib.ListN.{set, length-take, length-drop}
+use Rattle.std.proofs.Common.{arith, ◌+◌, ap₂, ◌∙◌, set, length-take, length-drop}
 use Rattle.geometry.specs.Meaning.{geo, sectors_of}
 use Rattle.replaying.specs.Laws.{record_on, number_inside, bytes_at}
 use Rattle.replaying.proofs.replay_record.Goals as goal

@@ -1,10 +1,5 @@
 -- `saving::has_room` meets its contract.
-use borrow.Author.Rules.{rules}
-use native.Mathlib.Omega.{arith}
-use Prim.Native.Nat.{suc, ◌+◌}
-use mathlib.Core.Path.{◌≡◌, sym, ap, ap₂, ◌∙◌}
-use lib.ListN.{length}
-use lib.Dec.{leb}
+use Rattle.std.proofs.Common.{arith, suc, ◌+◌, ◌≡◌, sym, ap, ap₂, ◌∙◌, length, leb}
 use Rattle.format.specs.Geometry.{Geometry, Disc}
 use Rattle.format.specs.Layout.{free}
 use Rattle.format.specs.Effects.{growth}

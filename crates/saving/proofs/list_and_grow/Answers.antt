@@ -1,8 +1,5 @@
 -- `saving::list_and_grow` meets its contract.
-use borrow.Author.Rules.{rules}
-use native.Mathlib.Omega.{arith}
-use Prim.Native.Nat.{◌+◌, ◌≤◌}
-use lib.ListN.{length}
+use Rattle.std.proofs.Common.{arith, ◌+◌, ◌≤◌, length}
 use Rattle.format.specs.Writes.{list_size}
 use Rattle.geometry.specs.Laws.{image_kept}
 use Rattle.saving.specs.Listing.{few_sectors, walks, grown_short, grown_listed}
@@ -25,15 +22,14 @@ returns-then-list-list_size c =
     (omega (arith, c.if-list-list_size.true, c.list_size.ensures, c.sectors_for-count.ensures))
 
 pub put_grown-requires : goal.put_grown-requires
-put_grown-requires c =
-    (
-      image_kept c.requires.0.image_of c.save_and_grow-grown.auto.image,
-      walks c.args.name.bytes _ c.requires.0 _ c.save_and_grow-grown.ensures.sectors_are c.system_of-first.result.pointer c.system_of-first.ensures.leads _
-          c.sectors_for-count.ensures c.system_of-first.ensures.inside,
-      c.save_and_grow-grown.ensures.new_inside,
-      c.save_and_grow-grown.ensures.last_inside,
-      room (goal.at.put_grown-requires c).Else-list-list_size,
-    )
+put_grown-requires c = (
+  image_kept c.requires.0.image_of c.save_and_grow-grown.auto.image,
+  walks c.args.name.bytes _ c.requires.0 _ c.save_and_grow-grown.ensures.sectors_are c.system_of-first.result.pointer c.system_of-first.ensures.leads _
+      c.sectors_for-count.ensures c.system_of-first.ensures.inside,
+  c.save_and_grow-grown.ensures.new_inside,
+  c.save_and_grow-grown.ensures.last_inside,
+  room (goal.at.put_grown-requires c).Else-list-list_size,
+)
 
 pub returns : goal.returns
 returns c =

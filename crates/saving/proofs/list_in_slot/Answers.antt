@@ -1,8 +1,5 @@
 -- `saving::list_in_slot` meets its contract.
-use borrow.Author.Rules.{rules}
-use native.Mathlib.Omega.{arith}
-use Prim.Native.Nat.{◌+◌, ◌≤◌}
-use lib.ListN.{length}
+use Rattle.std.proofs.Common.{arith, ◌+◌, ◌≤◌, length}
 use Rattle.format.specs.Layout.{slot_at}
 use Rattle.format.specs.Writes.{list_size}
 use Rattle.geometry.specs.Laws.{image_kept}
@@ -26,14 +23,13 @@ returns-then-list-list_size c =
     (omega (arith, c.if-list-list_size.true, c.list_size.ensures, c.sectors_for-count.ensures))
 
 pub put_saved-requires : goal.put_saved-requires
-put_saved-requires c =
-    (
-      image_kept c.requires.0.image_of c.save_in_slot.auto.image,
-      walks c.args.name.bytes _ c.requires.0 _ c.save_in_slot.ensures c.system_of-first.result.pointer c.system_of-first.ensures.leads _
-          c.sectors_for-count.ensures c.system_of-first.ensures.inside,
-      c.requires.2,
-      room (goal.at.put_saved-requires c).Else-list-list_size,
-    )
+put_saved-requires c = (
+  image_kept c.requires.0.image_of c.save_in_slot.auto.image,
+  walks c.args.name.bytes _ c.requires.0 _ c.save_in_slot.ensures c.system_of-first.result.pointer c.system_of-first.ensures.leads _
+      c.sectors_for-count.ensures c.system_of-first.ensures.inside,
+  c.requires.2,
+  room (goal.at.put_saved-requires c).Else-list-list_size,
+)
 
 pub returns : goal.returns
 unfolding slot_at

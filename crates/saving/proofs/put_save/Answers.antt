@@ -1,9 +1,5 @@
 -- `saving::put_save` meets its contract.
-use borrow.Author.Rules.{rules}
-use borrow.Author.Tests.{eqb-true}
-use mathlib.Core.Path.{◌≡◌, subst}
-use mathlib.Core.Option.{Option}
-use lib.ListN.{length}
+use Rattle.std.proofs.Common.{eqb-true, ◌≡◌, subst, Option, length}
 use Rattle.format.specs.Refusals.{Try, Refusal, ok}
 use Rattle.format.specs.Layout.{Slot}
 use Rattle.soundness.specs.WriteFacts.{savable}
@@ -19,7 +15,7 @@ use Rattle.saving.proofs.put_save.Goals as goal
 use Rattle.saving.proofs.put_save.Goals.{Start}
 
 -- what was judged
-judged : Start  → Try Refusal (Option Slot)
+judged : Start → Try Refusal (Option Slot)
 judged c = let a = c.args in vacancy_on (geo a.g) (sectors_of a.g a.image.now) a.name.bytes (length a.sheet.now)
 
 -- as the code took it apart

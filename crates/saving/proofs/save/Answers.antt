@@ -1,9 +1,7 @@
 -- `saving::save` meets its contract.
-use borrow.Author.Rules.{rules}
-use mathlib.Core.Path.{sym, ◌∙◌}
+use Rattle.std.proofs.Common.{rules, sym, ◌∙◌, List}
 use Rattle.format.specs.Refusals.{Try, Refusal}
 use Rattle.format.specs.Geometry.{Geometry, Disc, Write}
-use mathlib.Core.List.{List}
 use Rattle.format.specs.Calls.{save_on, after_save}
 use Rattle.geometry.specs.Meaning.{kind_of}
 use Rattle.geometry.specs.Laws.{Opened, opened, geometry_wrong}
@@ -13,7 +11,7 @@ use Rattle.saving.proofs.save.Goals as goal
 use Rattle.saving.proofs.save.Goals.{In-Of, Start}
 
 -- the call on sectors
-abbrev called : Start  → Geometry → Disc → Try Refusal (List Write)
+abbrev called : Start → Geometry → Disc → Try Refusal (List Write)
 called c G d = let a = c.args in save_on G d a.name.now (handed a.page a.start a.transfer a.sheet.now)
 
 -- the image is a disc of the geometry g

@@ -1,8 +1,6 @@
 -- `saving::save_name_on` meets its contract.
-use borrow.Author.Rules.{rules}
+use Rattle.std.proofs.Common.{◌≡◌, refl, sym, ap, ◌∙◌, true}
 use borrow.Author.Tests.{not-true, not-false}
-use mathlib.Core.Path.{◌≡◌, refl, sym, ap, ◌∙◌}
-use mathlib.Core.Bool.{true}
 use mathlib.Core.Option.{some}
 use Rattle.format.specs.Refusals.{NAME, MODULE, UNSOUND}
 use Rattle.format.specs.Names.{stored}
@@ -16,7 +14,7 @@ use Rattle.saving.proofs.save_name_on.Goals as goal
 use Rattle.saving.proofs.save_name_on.Goals.{Else-not-is_module, Else-not-parsed, Start}
 
 -- the module that is handed in
-sheet_at : Start  → Module
+sheet_at : Start → Module
 sheet_at c = handed c.args.page c.args.start 0 c.args.sheet.now
 
 -- the name as it is stored

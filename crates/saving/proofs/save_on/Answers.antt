@@ -1,8 +1,5 @@
 -- `saving::save_on` meets its contract.
-use borrow.Author.Rules.{rules}
-use native.Mathlib.Omega.{arith}
-use mathlib.Core.Path.{◌≡◌}
-use mathlib.Core.Bool.{true}
+use Rattle.std.proofs.Common.{arith, ◌≡◌, true}
 use Rattle.format.specs.Check.{sound}
 use Rattle.format.specs.Modules.{Module}
 use Rattle.format.specs.ModuleLaws.{IsModule, module_true, storable_module}
@@ -14,7 +11,7 @@ use Rattle.saving.proofs.save_on.Goals as goal
 use Rattle.saving.proofs.save_on.Goals.{Else-number-ne-DONE, Start}
 
 -- what is known where the refusals 2, 7 and 3 do not apply
-sheet_at : Start  → Module
+sheet_at : Start → Module
 sheet_at c = handed c.args.page c.args.start 0 c.args.sheet.now
 
 is_module : (c : Else-number-ne-DONE) → IsModule ((handed c.args.page c.args.start 0 c.args.sheet.now))

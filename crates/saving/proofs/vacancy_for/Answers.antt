@@ -1,7 +1,5 @@
 -- `saving::vacancy_for` meets its contract.
-use borrow.Author.Rules.{rules}
-use borrow.Author.Tests.{not-true, not-false, eqb-true}
-use mathlib.Core.Path.{◌≡◌, sym, ap, subst, ◌∙◌}
+use Rattle.std.proofs.Common.{eqb-true, ◌≡◌, sym, ap, subst, ◌∙◌}
 use mathlib.Core.Option.{none}
 use Rattle.format.specs.Refusals.{TAKEN, ROOM, ok}
 use Rattle.format.specs.Layout.{find}

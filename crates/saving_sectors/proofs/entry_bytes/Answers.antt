@@ -1,10 +1,5 @@
 -- `saving_sectors::entry_bytes` meets its contract.
-use borrow.Author.Rules.{rules}
-use Prim.Native.Nat.{ℕ}
-use mathlib.Core.Path.{◌≡◌, ap₂, ◌∙◌}
-use mathlib.Core.Bool.{false}
-use mathlib.Core.List.{List, [], ◌∷◌, ◌++◌}
-use lib.ListN.{length}
+use Rattle.std.proofs.Common.{rules, ℕ, ◌≡◌, ap₂, ◌∙◌, false, List, [], ◌∷◌, ◌++◌, length}
 use Rattle.lists.specs.Lists.{word}
 use Rattle.format.specs.Geometry.{Geometry}
 use Rattle.format.specs.Layout.{attribute, pair_bytes}

@@ -1,7 +1,5 @@
 -- `saving_sectors::grow` meets its contract.
-use borrow.Author.Rules.{rules}
-use mathlib.Core.Path.{◌≡◌}
-use lib.ListN.{length}
+use Rattle.std.proofs.Common.{rules, ◌≡◌, length}
 use Rattle.geometry.specs.Meaning.{geo}
 use Rattle.saving_sectors.specs.Bytes.{new_sector}
 use Rattle.saving_sectors.proofs.grow.Goals as goal

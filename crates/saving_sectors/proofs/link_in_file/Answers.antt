@@ -1,6 +1,5 @@
 -- `saving_sectors::link_in_file` meets its contract.
-use borrow.Author.Rules.{rules}
-use borrow.Author.Tests.{lt-ltb, le-ltb}
+use Rattle.std.proofs.Common.{lt-ltb, le-ltb}
 use Rattle.saving_sectors.proofs.link_in_file.Goals as goal
 
 pub returns-then-j-count : goal.returns-then-j-count

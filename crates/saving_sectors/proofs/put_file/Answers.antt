@@ -1,8 +1,5 @@
 -- `saving_sectors::put_file` meets its contract.
-use borrow.Author.Rules.{rules}
-use native.Mathlib.Omega.{arith}
-use mathlib.Core.Path.{sym, ◌∙◌}
-use lib.ListN.{length}
+use Rattle.std.proofs.Common.{arith, sym, ◌∙◌, length}
 use Rattle.format.specs.ModuleLaws.{sectors_fit}
 use Rattle.format.specs.Effects.{entry_bytes}
 use Rattle.disc.specs.Laws.{inside}

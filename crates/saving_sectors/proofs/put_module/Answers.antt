@@ -1,22 +1,16 @@
 -- `saving_sectors::put_module` meets its contract. The loop's invariant: j of the sectors are written, as `Taking` says.
-use borrow.Author.Rules.{rules}
-use native.Mathlib.Omega.{arith}
-use Prim.Native.Nat.{◌+◌, ◌-◌, ◌≤◌, ◌<◌}
-use mathlib.Core.Path.{◌≡◌, refl, sym, ap, ◌∙◌}
-use lib.Dec.{ltb}
-use lib.ListN.{length}
-use Rattle.format.specs.Layout.{free_pointer}
-use Rattle.format.specs.Modules.{Module, bodies}
+use Rattle.std.proofs.Common.{arith, ◌+◌, ◌≡◌, refl, sym, ap, ◌∙◌, ltb, length}
+use Rattle.format.specs.Modules.{Module}
 use Rattle.format.specs.ModuleLaws.{sectors_fit, bodies_many}
 use Rattle.geometry.specs.Meaning.{geo, sectors_of}
-use Rattle.disc.specs.Meaning.{meaning, Inside}
+use Rattle.disc.specs.Meaning.{meaning}
 use Rattle.geometry.specs.Laws.{image_kept}
 use Rattle.disc.specs.Laws.{inside}
 use Rattle.modules.specs.Meaning.{module_of}
 use Rattle.link_laws.specs.Links.{case_else, not_other, found_inside}
 use Rattle.soundness.specs.ListedWrites.{file_taken}
 use Rattle.saving_sectors.specs.Links.{link_inside}
-use Rattle.saving_sectors.specs.Taking.{Taking, taking_start, taking_to, taking_step, taking_end}
+use Rattle.saving_sectors.specs.Taking.{taking_start, taking_to, taking_step, taking_end}
 use Rattle.saving_sectors.specs.Writes.{file_linked}
 use Rattle.saving_sectors.proofs.put_module.Goals as goal
 

@@ -1,7 +1,5 @@
 -- `saving_sectors::save_and_grow` meets its contract.
-use borrow.Author.Rules.{rules}
-use native.Mathlib.Omega.{arith}
-use mathlib.Core.Path.{◌∙◌}
+use Rattle.std.proofs.Common.{arith, ◌∙◌}
 use Rattle.geometry.specs.Meaning.{sectors_of}
 use Rattle.geometry.specs.Laws.{image_kept}
 use Rattle.disc.specs.Laws.{inside}
@@ -18,19 +16,17 @@ returns-in_default c =
     absurd (not_other c.put_file-file.result.next (new_file_leads c.requires.0 c.requires.1 c.put_file-file.ensures) (case_else _ c.in_default.not-To))
 
 pub link_of-rest-requires : goal.link_of-rest-requires
-link_of-rest-requires c =
-    (
-      image_kept c.requires.0.image_of c.put_file-file.auto.image,
-      found_inside c.args.g c.in-To.is c.put_file-file.ensures.next_inside,
-    )
+link_of-rest-requires c = (
+  image_kept c.requires.0.image_of c.put_file-file.auto.image,
+  found_inside c.args.g c.in-To.is c.put_file-file.ensures.next_inside,
+)
 
 pub grow-requires : goal.grow-requires
-grow-requires c =
-    (
-      image_kept c.requires.0.image_of c.put_file-file.auto.image,
-      c.last_sector-last.ensures.1,
-      found_inside c.args.g c.in-To.is c.put_file-file.ensures.next_inside,
-    )
+grow-requires c = (
+  image_kept c.requires.0.image_of c.put_file-file.auto.image,
+  c.last_sector-last.ensures.1,
+  found_inside c.args.g c.in-To.is c.put_file-file.ensures.next_inside,
+)
 
 pub overflow_add-count : goal.overflow_add-count
 overflow_add-count c = omega (arith, c.sectors_for-count.ensures, (counts_fit c.requires.0).1)

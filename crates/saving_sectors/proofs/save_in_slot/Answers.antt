@@ -1,7 +1,5 @@
 -- `saving_sectors::save_in_slot` meets its contract.
-use borrow.Author.Rules.{rules}
-use native.Mathlib.Omega.{arith}
-use mathlib.Core.Path.{◌∙◌}
+use Rattle.std.proofs.Common.{arith, ◌∙◌}
 use Rattle.format.specs.Layout.{slot_at}
 use Rattle.geometry.specs.Meaning.{sectors_of}
 use Rattle.geometry.specs.Laws.{image_kept}

@@ -1,7 +1,5 @@
 -- `slots::attribute_of` meets its contract.
-use borrow.Author.Rules.{rules}
-use native.Mathlib.Omega.{arith}
-use mathlib.Core.Path.{sym, ◌∙◌}
+use Rattle.std.proofs.Common.{arith, sym, ◌∙◌}
 use Rattle.format.specs.Layout.{attribute_offset}
 use Rattle.slots.specs.Fields.{slot_byte}
 use Rattle.slots.proofs.attribute_of.Goals as goal

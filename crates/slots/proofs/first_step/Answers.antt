@@ -1,7 +1,5 @@
 -- `slots::first_step` meets its contract.
-use borrow.Author.Rules.{rules}
-use native.Mathlib.Omega.{arith}
-use mathlib.Core.Path.{sym, ◌∙◌}
+use Rattle.std.proofs.Common.{arith, sym, ◌∙◌}
 use Rattle.format.specs.Layout.{first_offset}
 use Rattle.slots.specs.Fields.{slot_pair}
 use Rattle.slots.proofs.first_step.Goals as goal

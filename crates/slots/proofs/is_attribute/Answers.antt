@@ -1,5 +1,5 @@
 -- `slots::is_attribute` meets its contract.
-use borrow.Author.Tests.{eq-eqb, ne_eqb}
+use Rattle.std.proofs.Common.{eq-eqb, ne_eqb}
 use Rattle.slots.proofs.is_attribute.Goals as goal
 
 pub returns-then-attribute-eq-UNPROTECTED : goal.returns-then-attribute-eq-UNPROTECTED

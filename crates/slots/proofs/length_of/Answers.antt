@@ -1,7 +1,5 @@
 -- `slots::length_of` meets its contract.
-use borrow.Author.Rules.{rules}
-use native.Mathlib.Omega.{arith}
-use mathlib.Core.Path.{sym, ◌∙◌}
+use Rattle.std.proofs.Common.{arith, sym, ◌∙◌}
 use Rattle.format.specs.Layout.{length_offset}
 use Rattle.slots.specs.Fields.{slot_word}
 use Rattle.slots.proofs.length_of.Goals as goal

@@ -1,9 +1,5 @@
 -- `slots::put_slot` meets its contract: two stores in the one sector.
-use borrow.Author.Rules.{rules}
-use native.Mathlib.Omega.{arith}
-use Prim.Native.Nat.{ℕ}
-use mathlib.Core.Path.{ap₂, ◌∙◌}
-use mathlib.Core.List.{List, [], ◌∷◌}
+use Rattle.std.proofs.Common.{arith, ℕ, ap₂, ◌∙◌, List, [], ◌∷◌}
 use lib.Seq.{sets}
 use Rattle.format.specs.Geometry.{Disc, sector}
 use Rattle.format.specs.GeometryLaws.{sector_again}

@@ -1,10 +1,5 @@
 -- `slots::same_at` meets its contract: the part of the image that is compared is the part of the sector.
-use borrow.Author.Rules.{rules}
-use native.Mathlib.Omega.{arith}
-use Prim.Native.Nat.{ℕ, ◌+◌}
-use mathlib.Core.Path.{ap, ◌∙◌}
-use mathlib.Core.List.{List}
-use lib.ListN.{length, take, drop}
+use Rattle.std.proofs.Common.{arith, ℕ, ◌+◌, ap, ◌∙◌, List, length, take, drop}
 use Rattle.lists.specs.Lists.{same}
 use Rattle.slots.specs.Laws.{part_cut}
 use Rattle.slots.proofs.same_at.Goals as goal

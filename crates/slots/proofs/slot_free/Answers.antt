@@ -1,7 +1,5 @@
 -- `slots::slot_free` meets its contract.
-use borrow.Author.Rules.{rules}
-use Prim.Native.Nat.{ℕ, ◌+◌}
-use mathlib.Core.Path.{ap₂, ◌∙◌}
+use Rattle.std.proofs.Common.{ℕ, ◌+◌, ap₂, ◌∙◌}
 use Rattle.slots.specs.Laws.{free_at}
 use Rattle.slots.proofs.slot_free.Goals as goal
 

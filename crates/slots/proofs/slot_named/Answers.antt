@@ -1,10 +1,5 @@
 -- `slots::slot_named` meets its contract.
-use borrow.Author.Rules.{rules}
-use native.Mathlib.Omega.{arith}
-use mathlib.Core.Path.{◌≡◌, ap, ap₂, sym, ◌∙◌}
-use Prim.Native.Nat.{ℕ}
-use mathlib.Core.List.{List}
-use lib.ListN.{length, take, drop}
+use Rattle.std.proofs.Common.{rules, arith, ◌≡◌, ap, ap₂, sym, ◌∙◌, ℕ, List, length, take, drop}
 use Rattle.lists.specs.Lists.{same}
 use Rattle.format.specs.Geometry.{Disc, sector}
 use Rattle.geometry.specs.Meaning.{sectors_of}

@@ -1,5 +1,4 @@
 -- `system::directory_pointer` meets its contract.
-use borrow.Author.Rules.{rules}
 use Rattle.disc.specs.Laws.{inside}
 use Rattle.system.proofs.directory_pointer.Goals as goal
 

@@ -1,10 +1,5 @@
 -- `system::put_system` meets its contract: two stores in the one sector.
-use borrow.Author.Rules.{rules}
-use native.Mathlib.Omega.{arith}
-use Prim.Native.Nat.{ℕ}
-use mathlib.Core.Path.{ap, ap₂, ◌∙◌}
-use mathlib.Core.List.{List, [], ◌∷◌, ◌++◌}
-use lib.ListN.{set}
+use Rattle.std.proofs.Common.{arith, ℕ, ap, ap₂, ◌∙◌, List, [], ◌∷◌, ◌++◌, set}
 use lib.Seq.{sets}
 use Rattle.lists.specs.Lists.{word}
 use Rattle.format.specs.Geometry.{Disc, sector}

@@ -1,5 +1,4 @@
 -- `system::system_of` meets its contract.
-use borrow.Author.Rules.{rules}
 use Rattle.disc.specs.Laws.{inside}
 use Rattle.system.proofs.system_of.Goals as goal
 

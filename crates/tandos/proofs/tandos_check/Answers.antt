@@ -1,6 +1,5 @@
 -- `tandos::tandos_check` meets its contract: the numbers of each case.
-use borrow.Author.Rules.{rules}
-use mathlib.Core.Path.{sym, ap, ◌∙◌}
+use Rattle.std.proofs.Common.{sym, ap, ◌∙◌}
 use Rattle.fsck.specs.Answer.{answer_of}
 use Rattle.tandos.proofs.tandos_check.Goals as goal
 

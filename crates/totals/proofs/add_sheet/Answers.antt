@@ -1,11 +1,7 @@
 -- `totals::add_sheet` meets its contract.
+use Rattle.std.proofs.Common.{List, ℕ, sym, ap, subst, ◌∙◌}
 use Rattle.totals.specs.Laws.{sheet_answer, other_table, lent_over, sheet_refused, sheet_added}
 use Rattle.totals.specs.Meaning.{Running, Tallies}
-use borrow.Author.Tests.{not-true, not-false}
-use mathlib.Core.List.{List}
-use Prim.Native.Nat.{ℕ}
-use mathlib.Core.Path.{sym, ap, subst, ◌∙◌}
-use borrow.Author.Rules.{rules}
 use Rattle.totals.proofs.add_sheet.Goals as goal
 use Rattle.totals.proofs.add_sheet.Goals.{After-copy, After-tally-number}
 

@@ -1,13 +1,7 @@
 -- `totals::are_within` meets its contract.
+use Rattle.std.proofs.Common.{take_all, true, rules, arith, refl, sym, ap, ◌∙◌}
 use Rattle.totals.specs.Laws.{over_at, within_one}
 use Rattle.totals.specs.Totals.{within}
-use lib.Seq.{take_all}
-use mathlib.Core.Bool.{true}
-use borrow.Author.Rules.{rules}
-use native.Mathlib.Omega.{arith}
-use Prim.Native.Nat.{◌-◌, ◌≤◌}
-use mathlib.Core.Path.{◌≡◌, refl, sym, ap, ◌∙◌}
-use lib.ListN.{length, take}
 use Rattle.totals.proofs.are_within.Goals as goal
 
 pub loop-i-init : goal.loop-i-init

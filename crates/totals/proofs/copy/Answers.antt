@@ -1,11 +1,6 @@
 -- `totals::copy` meets its contract.
+use Rattle.std.proofs.Common.{take_all, rules, arith, refl, sym, ◌∙◌, length-set}
 use Rattle.totals.specs.Laws.{copied_one}
-use lib.Seq.{take_all}
-use borrow.Author.Rules.{rules}
-use native.Mathlib.Omega.{arith}
-use Prim.Native.Nat.{◌-◌, ◌≤◌}
-use mathlib.Core.Path.{◌≡◌, refl, sym, ◌∙◌}
-use lib.ListN.{length, take, length-set}
 use Rattle.totals.proofs.copy.Goals as goal
 
 pub loop-i-init : goal.loop-i-init

@@ -1,11 +1,5 @@
 -- `totals::copy` meets its contract.
-use Rattle.totals.specs.Laws.{copied_one}
-use lib.Seq.{take_all}
-use borrow.Author.Rules.{rules}
-use native.Mathlib.Omega.{arith}
-use Prim.Native.Nat.{◌-◌, ◌≤◌}
-use mathlib.Core.Path.{◌≡◌, refl, sym, ◌∙◌}
-use lib.ListN.{length, take, length-set}
+use Rattle.std.proofs.Common.{◌-◌, ◌≤◌, ◌≡◌, length, take}
 use Rattle.totals.proofs.copy.Given as goal
 
 abbrev pub invariant-loop-i : goal.invariant-loop-i

@@ -1,12 +1,9 @@
 -- `totals::credit` meets its contract.
+use Rattle.std.proofs.Common.{le-leb, arith, ◌-◌, refl, sym}
 use Rattle.totals.specs.Laws.{low_at}
 use Rattle.totals.specs.Totals.{add_credit}
-use borrow.Author.Tests.{le-leb, lt-leb}
+use borrow.Author.Tests.{lt-leb}
 use mathlib.Core.Bool.{false≢true}
-use native.Mathlib.Omega.{arith}
-use Prim.Native.Nat.{◌-◌}
-use mathlib.Core.Path.{refl, sym}
-use borrow.Author.Rules.{rules}
 use Rattle.totals.proofs.credit.Goals as goal
 
 pub overflow_add-sum : goal.overflow_add-sum

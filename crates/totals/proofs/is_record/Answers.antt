@@ -1,11 +1,7 @@
 -- `totals::is_record` meets its contract.
+use Rattle.std.proofs.Common.{leb, arith, ℕ, ap, ◌∙◌}
 use Rattle.totals.specs.Laws.{date_record, other_record, low_record, pieces_record}
 use Rattle.totals.specs.Totals.{workers}
-use lib.Dec.{leb}
-use native.Mathlib.Omega.{arith}
-use Prim.Native.Nat.{ℕ}
-use mathlib.Core.Path.{ap, ◌∙◌}
-use borrow.Author.Rules.{rules}
 use Rattle.totals.proofs.is_record.Goals as goal
 
 pub returns-then-kind-eq2 : goal.returns-then-kind-eq2

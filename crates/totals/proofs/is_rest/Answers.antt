@@ -1,18 +1,11 @@
 -- `totals::is_rest` meets its contract.
+use Rattle.std.proofs.Common.{rules, arith, ℕ, refl, sym, ap, ◌∙◌, List}
 use Rattle.lists.specs.Lists.{is_some}
 use Rattle.totals.specs.Laws.{rest_on, record_bad, end_some}
-use Rattle.totals.specs.Totals.{credits_of}
-use borrow.Author.Tests.{not-true, not-false}
-use borrow.Author.Rules.{rules}
-use native.Mathlib.Omega.{arith}
-use Prim.Native.Nat.{ℕ, ◌-◌, ◌≤◌}
-use mathlib.Core.Path.{◌≡◌, refl, sym, ap, ◌∙◌}
-use mathlib.Core.List.{List}
-use lib.ListN.{length, drop}
 use Rattle.totals.proofs.is_rest.Goals as goal
 use Rattle.totals.proofs.is_rest.Goals.{At-loop-at}
 
-abbrev sheet_of : At-loop-at  → List ℕ
+abbrev sheet_of : At-loop-at → List ℕ
 sheet_of c = c.args.sheet.now
 
 pub loop-at-init : goal.loop-at-init

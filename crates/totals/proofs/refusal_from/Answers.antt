@@ -1,8 +1,6 @@
 -- `totals::refusal_from` meets its contract.
+use Rattle.std.proofs.Common.{Bool, cond, sym, ap, ◌∙◌}
 use Rattle.format.specs.Refusals.{BAD-SHEET, TOTAL, number_of}
-use mathlib.Core.Bool.{Bool, cond}
-use mathlib.Core.Path.{sym, ap, ◌∙◌}
-use borrow.Author.Rules.{rules}
 use Rattle.totals.proofs.refusal_from.Goals as goal
 
 pub returns-then-is_rest : goal.returns-then-is_rest

@@ -1,17 +1,7 @@
 -- `totals::tally` meets its contract.
-use Rattle.totals.specs.Laws.{record_bad, tally_on, tally_over, tally_bad, tally_end, refused_tally, done_tally}
-use Rattle.totals.specs.Meaning.{Running, Tallies, tallied, too_many}
+use Rattle.std.proofs.Common.{◌-◌, ◌≤◌, ◌≡◌, length, drop}
+use Rattle.totals.specs.Meaning.{Running, tallied}
 use Rattle.totals.specs.Totals.{credits_of}
-use Rattle.format.specs.Refusals.{BAD-SHEET}
-use borrow.Author.Tests.{not-true, not-false}
-use mathlib.Core.Bool.{Bool, cond}
-use mathlib.Core.Option.{none, some}
-use mathlib.Core.List.{[]}
-use borrow.Author.Rules.{rules}
-use native.Mathlib.Omega.{arith}
-use Prim.Native.Nat.{◌+◌, ◌-◌, ◌≤◌}
-use mathlib.Core.Path.{◌≡◌, refl, sym, ap, ◌∙◌}
-use lib.ListN.{length, drop}
 use Rattle.totals.proofs.tally.Given as goal
 
 abbrev pub invariant-loop-k : goal.invariant-loop-k

@@ -1,9 +1,5 @@
 -- `view::start_of_view` meets its contract.
-use mathlib.Core.Path.{◌≡◌, sym, ap, ◌∙◌}
-use mathlib.Core.Bool.{true}
-use Prim.Native.Nat.{ℕ, ◌+◌, ◌≤◌}
-use native.Mathlib.Omega.{arith}
-use borrow.Author.Rules.{rules}
+use Rattle.std.proofs.Common.{◌≡◌, sym, ap, ◌∙◌, true, ℕ, ◌+◌, ◌≤◌, arith}
 use Rattle.format.specs.Geometry.{on_disc, start_of}
 use Rattle.geometry.specs.declared.Geometry.{Geometry}
 use Rattle.geometry.specs.Meaning.{kind_of, form, geo}
@@ -16,7 +12,7 @@ use Rattle.view.proofs.start_of_view.Goals.{After-sector_at-at, In-Of, Then-on_d
 
 -- ---- places: the function's start; where the geometry is asked for
 
-abbrev geometry_at : In-Of  → Geometry
+abbrev geometry_at : In-Of → Geometry
 geometry_at c = c.in-Of.g
 
 opening : (c : In-Of) → let a = c.args in Opened (kind_of a.stated) (geometry_at c) a.image.now

@@ -1,9 +1,5 @@
 -- `view::view` meets its contract.
-use mathlib.Core.Path.{◌≡◌, refl, sym, ap, ◌∙◌}
-use Prim.Native.Nat.{ℕ, ◌+◌, ◌-◌, ◌≤◌}
-use native.Mathlib.Omega.{arith}
-use lib.ListN.{length, take, drop}
-use borrow.Author.Rules.{rules}
+use Rattle.std.proofs.Common.{◌≡◌, refl, sym, ap, ◌∙◌, ℕ, ◌+◌, ◌-◌, ◌≤◌, arith, length, take, drop}
 use Rattle.format.specs.Refusals.{Try, Refusal}
 use Rattle.format.specs.Geometry.{Part}
 use Rattle.format.specs.Formats.{stated_arranged}
@@ -15,7 +11,7 @@ use Rattle.view.proofs.view.Goals.{In-At, Start}
 
 -- ---- places: the function's start; where the view's start is asked for
 
-abbrev viewed : Start  → Try Refusal Part
+abbrev viewed : Start → Try Refusal Part
 viewed c = let a = c.args in view (kind_of a.stated) a.image.now a.track a.sector
 
 -- the part that is shown, which lies in the image

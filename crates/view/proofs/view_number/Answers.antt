@@ -1,6 +1,5 @@
 -- `view::view_number` meets its contract.
-use mathlib.Core.Path.{sym, ◌∙◌}
-use borrow.Author.Rules.{rules}
+use Rattle.std.proofs.Common.{sym, ◌∙◌}
 use Rattle.format.specs.Calls.{view_number}
 use Rattle.view.specs.Laws.{start_number, refused_number}
 use Rattle.view.proofs.view_number.Goals as goal

@@ -1,6 +1,5 @@
 -- `view::view_start` meets its contract.
-use mathlib.Core.Path.{sym, ap, ◌∙◌}
-use borrow.Author.Rules.{rules}
+use Rattle.std.proofs.Common.{sym, ap, ◌∙◌}
 use Rattle.format.specs.Geometry.{Part}
 use Rattle.format.specs.Calls.{view_part}
 use Rattle.view.specs.Laws.{start_part, refused_part}

@@ -1,15 +1,10 @@
 -- `writes::put_chain` meets its contract. The loop's invariant: storing the records of what is left of the walk gives what storing all of them gives at the
 -- start. The measure is how many steps are left.
-use borrow.Author.Rules.{rules}
-use native.Mathlib.Omega.{arith}
-use Prim.Native.Nat.{ℕ, ◌+◌, ◌*◌, ◌≤◌}
-use mathlib.Core.Path.{◌≡◌, refl, ap}
-use mathlib.Core.List.{[]}
-use lib.ListN.{length}
+use Rattle.std.proofs.Common.{arith, ℕ, ◌≡◌, refl, ap, []}
 use Rattle.geometry.specs.Meaning.{geo, sectors_of}
-use Rattle.disc.specs.Meaning.{meaning, Reaches, led}
+use Rattle.disc.specs.Meaning.{meaning, led}
 use Rattle.disc.specs.Laws.{reached}
-use Rattle.records.specs.Storing.{Stored, Storing, storing_all, storing_step, storing_end, stored_as}
+use Rattle.records.specs.Storing.{Stored, storing_all, storing_step, storing_end, stored_as}
 use Rattle.format.specs.Writes.{record_of}
 use Rattle.soundness.specs.CopiedOut.{standing}
 use Rattle.writes.specs.Laws.{walked, walked_stops, walked_none, walked_go}

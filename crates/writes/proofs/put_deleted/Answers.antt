@@ -1,7 +1,5 @@
 -- `writes::put_deleted` meets its contract.
-use borrow.Author.Rules.{rules}
-use mathlib.Core.Path.{refl}
-use mathlib.Core.List.{[], ◌∷◌}
+use Rattle.std.proofs.Common.{refl, [], ◌∷◌}
 use Rattle.records.specs.Storing.{storing_all}
 use Rattle.writes.specs.Laws.{copied_step, copied_end}
 use Rattle.writes.proofs.put_deleted.Goals as goal

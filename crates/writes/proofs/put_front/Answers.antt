@@ -1,6 +1,5 @@
 -- `writes::put_front` meets its contract.
-use borrow.Author.Rules.{rules}
-use native.Mathlib.Omega.{arith}
+use Rattle.std.proofs.Common.{arith}
 use Rattle.format.specs.Layout.{met}
 use Rattle.geometry.specs.Meaning.{geo, sectors_of}
 use Rattle.disc.specs.Meaning.{meaning}

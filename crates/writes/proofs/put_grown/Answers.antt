@@ -1,6 +1,5 @@
 -- `writes::put_grown` meets its contract.
-use borrow.Author.Rules.{rules}
-use mathlib.Core.List.{[], ◌∷◌}
+use Rattle.std.proofs.Common.{[], ◌∷◌}
 use Rattle.writes.specs.Meaning.{front_of}
 use Rattle.writes.specs.Laws.{copied_step, copied_end, front_then}
 use Rattle.writes.proofs.put_grown.Goals as goal

@@ -1,7 +1,5 @@
 -- `writes::put_numbered` meets its contract.
-use borrow.Author.Rules.{rules}
-use Prim.Native.Nat.{ℕ}
-use mathlib.Core.Path.{ap}
+use Rattle.std.proofs.Common.{ℕ, ap}
 use Rattle.format.specs.Writes.{record_of}
 use Rattle.soundness.specs.CopiedOut.{standing}
 use Rattle.geometry.specs.Meaning.{geo, sectors_of}

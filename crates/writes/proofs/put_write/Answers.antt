@@ -1,7 +1,5 @@
 -- `writes::put_write` meets its contract.
-use borrow.Author.Rules.{rules}
-use Prim.Native.Nat.{ℕ, ◌+◌}
-use mathlib.Core.Path.{refl, ap, ◌∙◌}
+use Rattle.std.proofs.Common.{ℕ, ◌+◌, refl, ap, ◌∙◌}
 use Rattle.geometry.specs.Meaning.{geo, sectors_of}
 use Rattle.records.specs.Storing.{stored_as}
 use Rattle.writes.specs.Laws.{whole_sector, record_long, record_of_write}
