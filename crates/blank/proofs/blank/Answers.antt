@@ -13,8 +13,6 @@ use Rattle.blank.specs.Laws.{blank_size, blank_name, blank_done}
 use Rattle.blank.proofs.blank.Goals as goal
 use Rattle.blank.proofs.blank.Goals.{After-disc_name-parsed, In-Of}
 
--- ---- places: the function's start; where the geometry is asked for; where it is known; where the name is good
-
 opening : (c : In-Of) → let a = c.args in Opened (kind_of a.stated) c.in-Of.g a.image.now
 opening c = opened _ _ _ (sym c.geometry_of.ensures ∙ c.in-Of.is)
 

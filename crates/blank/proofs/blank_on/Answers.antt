@@ -10,8 +10,6 @@ use Rattle.blank.specs.Zeros.{cut_zeros, bare_zeros}
 use Rattle.blank.proofs.blank_on.Goals as goal
 use Rattle.blank.proofs.blank_on.Goals.{After-clear, After-put_blank_system}
 
--- ---- places: the function's start; where the image is cleared; where the system sector is written
-
 zeros : (c : After-clear) → sectors_of c.args.g c.clear.new.image ≡ replicate (sectors (geo c.args.g)) (replicate 256 0)
 zeros c =
     let a = c.args in

@@ -13,8 +13,6 @@ use Rattle.blank.specs.Laws.{system_is}
 use Rattle.blank.proofs.put_blank_system.Goals as goal
 use Rattle.blank.proofs.put_blank_system.Goals.{Start}
 
--- ---- places: the function's start; where the pointers are known, and where they are written; the same of the counts and the name
-
 nine_bytes_long : (c : Start) → length c.args.name.bytes ≡ 9
 nine_bytes_long c = search rules
 

@@ -6,8 +6,6 @@ use Rattle.geometry.specs.Laws.{image_kept}
 use Rattle.blank.specs.Links.{links_from, links_end, links_whole, Linked, linked_none, linked_more}
 use Rattle.blank.proofs.put_chain.Goals as goal
 
--- ---- places: the function's start; where the first track is written; the head of a turn; the start, from the loop
-
 pub put_track-requires : goal.put_track-requires
 put_track-requires c =
     let pre = c.requires in

@@ -10,8 +10,6 @@ use Rattle.blank.specs.Links.{linked_none, linked_more, here_bare, linked_here}
 use Rattle.blank.proofs.put_track.Goals as goal
 use Rattle.blank.proofs.put_track.Goals.{At-loop-i}
 
--- ---- places: the function's start; where a turn begins; where the loop is left
-
 pub offset_bounds-stops-i : goal.offset_bounds-stops-i
 offset_bounds-stops-i c = let pre = c.requires in omega (arith, pre.3, pre.0.valid.few_on_track)
 

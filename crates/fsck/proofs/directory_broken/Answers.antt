@@ -10,8 +10,6 @@ use Rattle.fsck.specs.Rules.{checked_broken, checked_sound, rule1_is, rule2_brok
 use Rattle.fsck.proofs.directory_broken.Goals as goal
 use Rattle.fsck.proofs.directory_broken.Goals.{After-step_to-from}
 
--- ---- places: rule 1 holds; the walk's start is known
-
 abbrev valid : (c : After-step_to-from) → Valid c.args.g
 valid c = c.requires.0.valid
 

@@ -4,8 +4,6 @@ use Rattle.fsck_chains.specs.Marks.{marked}
 use Rattle.fsck.specs.Rules.{marks_of, rule5_bad, rule5_good}
 use Rattle.fsck.proofs.files_stand.Goals as goal
 
--- ---- places: rules 1 to 4 hold; the function's start
-
 pub directory_broken-rule-requires : goal.directory_broken-rule-requires
 unfolding marks_of marked
 directory_broken-rule-requires c = (c.requires.0, ap (λ (m : List ℕ). set m 0 1) c.requires.1)

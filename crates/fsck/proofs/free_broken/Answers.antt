@@ -8,8 +8,6 @@ use Rattle.fsck.specs.Rules.{rule6_is, rule6_marks, rule7_is, rule8_is}
 use Rattle.fsck.proofs.free_broken.Goals as goal
 use Rattle.fsck.proofs.free_broken.Goals.{After-all_marked, After-free_good, Else-not-free_good, Else-used_count-used}
 
--- ---- places: the function's start; the walk along the free chain; rule 7 holds
-
 abbrev G : After-free_good → Geometry
 G c = geo c.args.g
 

@@ -2,8 +2,6 @@
 use Rattle.fsck.specs.Free.{free_broken, free_ended}
 use Rattle.fsck.proofs.free_good.Goals as goal
 
--- ---- places: where the free pointer is read; where the chain is followed
-
 pub follow-requires : goal.follow-requires
 follow-requires c = (c.requires, c.free_step-first.ensures.1)
 

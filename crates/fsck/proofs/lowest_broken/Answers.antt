@@ -2,8 +2,6 @@
 use Rattle.fsck.specs.Rules.{stands_broken, stands_good}
 use Rattle.fsck.proofs.lowest_broken.Goals as goal
 
--- ---- places: what rules 1 to 5 find is known; the function's start
-
 pub free_broken-requires : goal.free_broken-requires
 free_broken-requires c = (c.requires, stands_good _ _ _ _ c.files_stand.ensures c.in-Holds.is)
 

@@ -7,8 +7,6 @@ use Rattle.fsck_files.specs.Files.{at_most, filing_start, filing_over, filing_sk
 use Rattle.fsck_files.proofs.sector_files.Goals as goal
 use Rattle.fsck_files.proofs.sector_files.Goals.{Else-slot_free, In-Good}
 
--- ---- places: the function's start; the head of a turn; where its slot has an entry
-
 -- the entries that were left are this one and those after it
 left : (c : Else-slot_free) → let a = c.args in
     let d = sectors_of a.g a.image.now in

@@ -7,8 +7,6 @@ use Rattle.fsck_names.specs.Tally.{apart_lone}
 use Rattle.fsck_names.proofs.slot_differs.Goals as goal
 use Rattle.fsck_names.proofs.slot_differs.Goals.{Else-slot_free}
 
--- ---- places: the function's start; where the slot has an entry
-
 used : (c : Else-slot_free) → let a = c.args in free_slot (slot_at (sectors_of a.g a.image.now) a.n.0 a.i) ≡ false
 used c = sym c.slot_free.ensures ∙ c.if-slot_free.false
 

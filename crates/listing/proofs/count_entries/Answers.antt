@@ -9,8 +9,6 @@ use Rattle.listing.specs.Laws.{entries_are, entries_few, used_cons, used_over}
 use Rattle.listing.proofs.count_entries.Goals as goal
 use Rattle.listing.proofs.count_entries.Goals.{In-Sector}
 
--- ---- places: the function's start; the head of a turn
-
 -- the sector that a turn meets
 met : (c : In-Sector) → Met c.args.g c.args.image.now c.loop-n.rest c.in-Sector.n.0 c.in-Sector.after
 met c = stepped_to _ _ c.loop-n.rest c.in-Sector.is c.advance-next.ensures

@@ -8,8 +8,6 @@ use Rattle.listing.specs.Answer.{after_size, after_on}
 use Rattle.listing.proofs.list.Goals as goal
 use Rattle.listing.proofs.list.Goals.{In-Of}
 
--- ---- places: the function's start; where the geometry is asked for
-
 opening : (c : In-Of) → let a = c.args in Opened (kind_of a.stated) c.in-Of.g a.image.now
 opening c = opened _ _ _ (sym c.geometry_of.ensures ∙ c.in-Of.is)
 

@@ -8,8 +8,6 @@ use Rattle.listing.specs.Answer.{on_unsound, on_short, on_done}
 use Rattle.listing.proofs.list_on.Goals as goal
 use Rattle.listing.proofs.list_on.Goals.{Else-not-is_sound}
 
--- ---- places: the function's start; where there is room
-
 sound_is : (c : Else-not-is_sound) → let a = c.args in sound (geo a.g) (sectors_of a.g a.image.now) ≡ true
 sound_is c = sym c.is_sound.ensures ∙ c.if-not-is_sound.false
 

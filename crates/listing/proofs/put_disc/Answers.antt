@@ -9,8 +9,6 @@ use Rattle.listing.specs.Laws.{two_bytes}
 use Rattle.records.specs.Storing.{stored_as}
 use Rattle.listing.proofs.put_disc.Goals as goal
 
--- ---- places: the function's start; where the counts are read; where their bytes are
-
 pub returns : goal.returns
 returns c =
     let d : Disc = sectors_of c.args.g c.args.image.now in

@@ -11,8 +11,6 @@ use Rattle.records.specs.Storing.{storing_all, storing_step, storing_room, stori
 use Rattle.listing.proofs.put_entries.Goals as goal
 use Rattle.listing.proofs.put_entries.Goals.{In-Sector}
 
--- ---- places: the function's start; the head of a turn; where it meets a sector
-
 -- the sector that a turn meets
 met : (c : In-Sector) → Met c.args.g c.args.image.now c.loop-n.rest c.in-Sector.n.0 c.in-Sector.after
 met c = stepped_to _ _ c.loop-n.rest c.in-Sector.is c.advance-next.ensures

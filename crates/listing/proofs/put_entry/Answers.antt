@@ -8,8 +8,6 @@ use Rattle.listing.specs.Laws.{two_bytes}
 use Rattle.records.specs.Storing.{stored_as}
 use Rattle.listing.proofs.put_entry.Goals as goal
 
--- ---- places: the function's start; where the entry is read; where the bytes of its length are
-
 pub returns : goal.returns
 returns c =
     let a = c.args in

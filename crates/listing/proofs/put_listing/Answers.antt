@@ -7,8 +7,6 @@ use Rattle.listing.specs.Whole.{Ending, room_disc, room_entries, ending}
 use Rattle.listing.proofs.put_listing.Goals as goal
 use Rattle.listing.proofs.put_listing.Goals.{After-put_entries-last}
 
--- ---- places: the function's start; where the record of the disc is stored, and where those of the entries are
-
 -- all but the last byte is stored
 stored : (c : After-put_entries-last) → let a = c.args in
     Ending (listing (geo a.g) (sectors_of a.g a.image.now)) a.buffer.now c.put_entries-last.new.buffer c.put_entries-last.result

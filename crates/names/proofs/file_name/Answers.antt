@@ -4,8 +4,6 @@ use Rattle.names.specs.Answer.{parsed}
 use Rattle.names.specs.Laws.{take_rest, stored_dotted, stored_plain, stored_long}
 use Rattle.names.proofs.file_name.Goals as goal
 
--- ---- places: the function's start; where a dot is found
-
 pub returns-then-typed-gt10 : goal.returns-then-typed-gt10
 returns-then-typed-gt10 c = c.refused.ensures ∙ ap parsed (sym (stored_long c.args.typed.now c.if-typed-gt10.true))
 

@@ -7,8 +7,6 @@ use Rattle.names.specs.Laws.{paste_extension, letters_few}
 use Rattle.names.proofs.with_extension.Goals as goal
 use Rattle.names.proofs.with_extension.Goals.{Else-not-are_letters-2}
 
--- ---- places: the function's start; where the name is good
-
 pub returns-then-not-are_letters : goal.returns-then-not-are_letters
 unfolding with_extension
 returns-then-not-are_letters c = simp (c.refused.ensures, ← c.are_letters.ensures, c.if-not-are_letters.true)

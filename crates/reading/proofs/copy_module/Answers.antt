@@ -11,8 +11,6 @@ use Rattle.reading.specs.FileLaws.{file_followed, followed_leads, followed_step,
 use Rattle.reading.specs.CopyLaws.{copied_on, copied_long, file_bytes}
 use Rattle.reading.proofs.copy_module.Goals as goal
 
--- ---- places: the function's start; where the first sector is copied; the start, from the loop; the head of a turn
-
 pub copy_part-at-requires : goal.copy_part-at-requires
 copy_part-at-requires c =
     let pre = c.requires in

@@ -12,8 +12,6 @@ use Rattle.reading.specs.declared.Header.{Header}
 use Rattle.reading.proofs.first_header.Goals as goal
 use Rattle.reading.proofs.first_header.Goals.{After-filled_at, After-numbers_of-header}
 
--- ---- places: the function's start; where the numbers are read; where the sectors are counted
-
 abbrev bytes : After-numbers_of-header → List ℕ
 bytes c = let a = c.args in sector (sectors_of a.g a.image.now) a.s.number.0
 

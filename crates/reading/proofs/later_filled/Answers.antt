@@ -7,8 +7,6 @@ use Rattle.reading.specs.FileLaws.{file_followed, followed_leads, followed_step,
 use Rattle.reading.proofs.later_filled.Goals as goal
 use Rattle.reading.proofs.later_filled.Goals.{At-loop-j}
 
--- ---- places: the function's start; the head of a turn
-
 -- the sectors that are left, told of all of them
 whole : (c : At-loop-j) → let a = c.args in
     later_filled c.loop-j.left (bodies_after a.g a.image.now c.loop-j.s.number.0 (a.count - c.loop-j.j))

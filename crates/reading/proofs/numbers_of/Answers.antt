@@ -4,8 +4,6 @@ use Rattle.geometry.specs.Meaning.{sectors_of}
 use Rattle.reading.specs.FileLaws.{numbers_read}
 use Rattle.reading.proofs.numbers_of.Goals as goal
 
--- ---- places: the function's start; where the first word is read
-
 pub returns : goal.returns
 returns c =
     let a = c.args in

@@ -7,8 +7,6 @@ use Rattle.reading.specs.FileLaws.{first_refused, by_later_sectors}
 use Rattle.reading.proofs.plain_header.Goals as goal
 use Rattle.reading.proofs.plain_header.Goals.{After-later_filled}
 
--- ---- places: the function's start; where the header of the first sector is good
-
 -- what the test of the later sectors decides
 by_later : (c : After-later_filled) → let a = c.args in
     header_of (plain (file_bodies a.g a.image.now a.first.number.0 a.count))

@@ -8,8 +8,6 @@ use Rattle.reading.specs.declared.Reading.{Reading}
 use Rattle.reading.proofs.read.Goals as goal
 use Rattle.reading.proofs.read.Goals.{In-Of}
 
--- ---- places: the function's start; where the geometry is asked for
-
 opening : (c : In-Of) → let a = c.args in Opened (kind_of a.stated) c.in-Of.g a.image.now
 opening c = opened _ _ _ (sym c.geometry_of.ensures ∙ c.in-Of.is)
 

@@ -12,8 +12,6 @@ use Rattle.reading.specs.FileLaws.{entry_leads, entry_file, entry_reading}
 use Rattle.reading.proofs.read_file.Goals as goal
 use Rattle.reading.proofs.read_file.Goals.{In-To}
 
--- ---- places: the function's start; where the entry is read; where its first sector is known
-
 abbrev first : In-To → ℕ
 first c = c.in-To.first.0
 

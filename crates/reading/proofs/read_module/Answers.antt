@@ -13,8 +13,6 @@ use Rattle.reading.specs.declared.Reading.{Reading}
 use Rattle.reading.proofs.read_module.Goals as goal
 use Rattle.reading.proofs.read_module.Goals.{After-copy_module, After-plain_header-header, After-sector_of-at}
 
--- ---- places: the function's start; where the header is known; where the module is copied
-
 file : (c : After-sector_of-at) → let a = c.args in File a.g a.image.now c.sector_of-at.result.number.0 a.count
 file c =
     let a = c.args in

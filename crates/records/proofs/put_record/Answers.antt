@@ -5,8 +5,6 @@ use Rattle.records.specs.Storing.{stored_three}
 use Rattle.records.proofs.put_record.Goals as goal
 use Rattle.records.proofs.put_record.Goals.{After-copy}
 
--- ---- places: the function's start; where the first part is stored, and where the second is
-
 first_long : (c : After-copy) → length c.copy.new.to ≡ length c.args.buffer.now
 first_long c = ap length c.copy.ensures ∙ simp (length-sets, length-set)
 

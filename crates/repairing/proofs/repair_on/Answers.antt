@@ -9,8 +9,6 @@ use Rattle.answers.specs.Laws.{refuses_is, refuses_leaves, done_leaves}
 use Rattle.repairing.specs.Laws.{repaired}
 use Rattle.repairing.proofs.repair_on.Goals as goal
 
--- ---- places: the function's start; where rules 1 to 5 are judged; where they hold; where the sectors are threaded; where the pointer is known
-
 pub returns-in_default : goal.returns-in_default
 returns-in_default c =
     let a = c.args in

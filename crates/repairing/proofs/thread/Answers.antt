@@ -6,8 +6,6 @@ use Rattle.repairing.specs.Meaning.{thread_as, thread_start}
 use Rattle.repairing.proofs.thread.Goals as goal
 use Rattle.repairing.proofs.thread.Goals.{In-loop-track}
 
--- ---- places: the function's start; a turn of the loop, where its track is threaded
-
 -- the turn's track ends where the chain begins
 track_ends : (c : In-loop-track) → (geo c.args.g).per_track * c.loop-track.track ≡ (geo c.args.g).per_track * (c.loop-track.track - 1 + 1)
 track_ends c =

@@ -9,8 +9,6 @@ use Rattle.repairing.specs.Meaning.{extend_none, extend_skip, extend_more, exten
 use Rattle.repairing.proofs.thread_track.Goals as goal
 use Rattle.repairing.proofs.thread_track.Goals.{In-loop-i}
 
--- ---- places: the function's start; a turn of the loop, where its stop is read, where its sector is known, and where it is linked
-
 -- the position of the turn
 abbrev position : In-loop-i → ℕ
 position c = c.loop-i.i - 1

@@ -4,8 +4,6 @@ use Rattle.geometry.specs.Meaning.{geo, sectors_of}
 use Rattle.replaying.specs.Laws.{record_on, number_inside, bytes_at}
 use Rattle.replaying.proofs.replay_record.Goals as goal
 
--- ---- places: the function's start; where the sector's number is known
-
 pub overflow_cast-list : goal.overflow_cast-list
 overflow_cast-list c = omega (arith, c.type_inv.list (c.args.k + 1))
 

@@ -23,7 +23,7 @@ named c =
     let parsed = c.file_name-parsed.ensures in
     parsed_some _ (sym (ap (λ (r : Parsed). r.ok) parsed) ∙ not-false _ c.if-not-parsed.false) ∙ ap (λ (r : Parsed). some r.name.bytes) (sym parsed)
 
-module_good : (c : Else-not-is_module) → storable ((handed c.args.page c.args.start 0 c.args.sheet.now)) ≡ true
+module_good : (c : Else-not-is_module) → storable (handed c.args.page c.args.start 0 c.args.sheet.now) ≡ true
 unfolding sheet_at storable is_module
 module_good c = sym c.is_module.ensures ∙ c.if-not-is_module.false
 

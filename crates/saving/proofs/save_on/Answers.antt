@@ -14,7 +14,7 @@ use Rattle.saving.proofs.save_on.Goals.{Else-number-ne-DONE, Start}
 sheet_at : Start → Module
 sheet_at c = handed c.args.page c.args.start 0 c.args.sheet.now
 
-is_module : (c : Else-number-ne-DONE) → IsModule ((handed c.args.page c.args.start 0 c.args.sheet.now))
+is_module : (c : Else-number-ne-DONE) → IsModule (handed c.args.page c.args.start 0 c.args.sheet.now)
 unfolding sheet_at
 is_module c =
     let m = (handed c.args.page c.args.start 0 c.args.sheet.now) in

@@ -10,8 +10,6 @@ use Rattle.geometry.specs.Laws.{image_full}
 use Rattle.disc.specs.Meaning.{stored_at}
 use Rattle.slots.proofs.put_slot.Goals as goal
 
--- ---- places: the function's start; where the count is stored; where the slot's start is known
-
 pub returns : goal.returns
 unfolding with_slot
 returns c =

@@ -10,8 +10,6 @@ use Rattle.view.specs.declared.ViewStart.TheVariants.{At}
 use Rattle.view.proofs.start_of_view.Goals as goal
 use Rattle.view.proofs.start_of_view.Goals.{After-sector_at-at, In-Of, Then-on_disc}
 
--- ---- places: the function's start; where the geometry is asked for
-
 abbrev geometry_at : In-Of → Geometry
 geometry_at c = c.in-Of.g
 

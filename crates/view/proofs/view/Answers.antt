@@ -9,8 +9,6 @@ use Rattle.view.specs.Laws.{view_part_lies, refused_part}
 use Rattle.view.proofs.view.Goals as goal
 use Rattle.view.proofs.view.Goals.{In-At, Start}
 
--- ---- places: the function's start; where the view's start is asked for
-
 abbrev viewed : Start → Try Refusal Part
 viewed c = let a = c.args in view (kind_of a.stated) a.image.now a.track a.sector
 
