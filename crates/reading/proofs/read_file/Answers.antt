@@ -1,5 +1,6 @@
 -- `reading::read_file` meets its contract.
-use Rattle.std.proofs.Common.{◌≡◌, sym, ap, ◌∙◌, Option, List, ℕ, ◌<◌, length}
+use Rattle.std.proofs.Common.{◌≡◌, sym, ap, ◌∙◌, List, ℕ, ◌<◌, length}
+use Rattle.std.proofs.Math.Option.{Option}
 use Rattle.format.specs.Geometry.{go}
 use Rattle.format.specs.Layout.{slot_at, first_of}
 use Rattle.format.specs.Modules.{Module}

@@ -1,5 +1,6 @@
 -- `saving::put_save` meets its contract.
-use Rattle.std.proofs.Common.{eqb-true, ◌≡◌, subst, Option, length}
+use Rattle.std.proofs.Common.{eqb-true, ◌≡◌, subst, length}
+use Rattle.std.proofs.Math.Option.{Option}
 use Rattle.format.specs.Refusals.{Try, Refusal, ok}
 use Rattle.format.specs.Layout.{Slot}
 use Rattle.soundness.specs.WriteFacts.{savable}
