@@ -3,10 +3,10 @@
 use Rattle.std.specs.Prelude.{◌≡◌, refl, ◌≢◌, ℕ, zero, suc, ◌≤◌, ◌<◌, Bool, true, false, not, List, [], ◌∷◌, ◌++◌, map, drop}
 use Rattle.std.proofs.Common.{sym, ap, ap₂, ◌∙◌, subst, arith, mul-le-mul, ne_eqb}
 use Rattle.lists.specs.Lists.{filter, elem, range, joined, times, Once}
-use Rattle.lists.specs.ListLaws.{All, done, all_map, all_mapped, all_join, at_all}
-use Rattle.lists.specs.ListLaws.{filter_join, filter_no, times_here, times_past, once_inside, filter_whole}
+use Rattle.lists.specs.ListLaws.{All, done, all_map, all_mapped, all_join, at_all, filter_join, filter_no, times_here, times_past, once_inside, filter_whole}
 use Rattle.format.specs.Geometry.{Format, Geometry, tracked, sector_number}
-use Rattle.format.specs.Formats.{GoodFormat, order_begins, four}
+use Rattle.format.specs.Formats.{GoodFormat}
+use Rattle.format.proofs.Formats.{order_begins, four}
 use Rattle.format.specs.Effects.{passing, blank_directory, blank_free}
 
 module _ (F : Format) (f : GoodFormat F) (T : ℕ) where

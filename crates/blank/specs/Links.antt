@@ -13,7 +13,7 @@ use Rattle.std.proofs.Math.Seq.{drop-cons, get_or-drop}
 use Rattle.lists.specs.Lists.{elem}
 use Rattle.lists.specs.ListLaws.{All, all_get_d, filter_all}
 use Rattle.format.specs.Geometry.{Disc, sector, sectors, sector_number, on_disc, Write, written}
-use Rattle.format.specs.GeometryLaws.{length_cut, is_on_disc}
+use Rattle.format.proofs.GeometryLaws.{length_cut, is_on_disc}
 use Rattle.format.specs.Layout.{link_bytes}
 use Rattle.format.specs.Effects.{body, head_of, chained, passing, blank_directory, blank_free}
 use Rattle.geometry.specs.Meaning.{form, geo, sectors_of, Valid}

@@ -6,8 +6,9 @@ use Rattle.std.proofs.Math.Decide.{ℕ_discrete}
 use Rattle.std.proofs.lemmas.List.{replicate-append-replicate, get_or-replicate, length-replicate}
 use Rattle.std.proofs.lemmas.List.Edits.{sets, sets-eq}
 use Rattle.format.specs.Geometry.{Format, Geometry, sectors, place_of, Disc, sector, chunks, reordered, cut}
-use Rattle.format.specs.Arrangements.{Arranged, reordered_long, reordered_at}
-use Rattle.format.specs.GeometryLaws.{place_below, sector_other, sector_same}
+use Rattle.format.specs.Arrangements.{Arranged}
+use Rattle.format.proofs.Arrangements.{reordered_long, reordered_at}
+use Rattle.format.proofs.GeometryLaws.{place_below, sector_other, sector_same}
 use Rattle.format.specs.Layout.{link_offset}
 use Rattle.format.specs.Effects.{body}
 use Rattle.blank.specs.Meaning.{Bare}

@@ -9,7 +9,7 @@ use Rattle.std.proofs.Math.ListN.{set}
 use Rattle.std.proofs.lemmas.List.Edits.{sets}
 use Rattle.lists.specs.Lists.{byte, last_or}
 use Rattle.format.specs.Geometry.{Geometry, Disc, sector, written}
-use Rattle.format.specs.GeometryLaws.{sector_other}
+use Rattle.format.proofs.GeometryLaws.{sector_other}
 use Rattle.format.specs.Layout.{link_offset, in_use_offset, system, free_count, used_count, Slot, empty_slot, length_of, link_bytes, free_pointer, first_of, file_chain}
 use Rattle.format.specs.Effects.{with_slot, system_write, delete_writes}
 use Rattle.disc.specs.Meaning.{stored_at}

@@ -8,11 +8,10 @@ use mathlib.Core.List.{List, [], ◌∷◌, ◌++◌, head?}
 use Rattle.lists.specs.Lists.{byte, same, filter}
 use Rattle.lists.specs.ListLaws.{and_true, filter_join, filter_yes, filter_no, filter_filter, head_left, head_right, same_true}
 use Rattle.format.specs.Geometry.{Geometry, Next, stop, go, off, Disc, sector}
-use Rattle.format.specs.ChainLaws.{met_stop, met_off, met_none, met_go}
+use Rattle.format.proofs.ChainLaws.{met_stop, met_off, met_none, met_go}
 use Rattle.format.specs.Names.{letter, legal_stored}
-use Rattle.format.specs.Layout.{slots_each, Slot, empty_slot, free_slot, in_use, name_of, slot_at, slots_at}
-use Rattle.format.specs.Layout.{slots_of, link_of, met, directory_pointer, directory, slots, entries, find, open_slot}
-use Rattle.format.specs.SlotLaws.{in_use_join}
+use Rattle.format.specs.Layout.{slots_each, Slot, empty_slot, free_slot, in_use, name_of, slot_at, slots_at, slots_of, link_of, met, directory_pointer, directory, slots, entries, find, open_slot}
+use Rattle.format.proofs.SlotLaws.{in_use_join}
 use Rattle.geometry.specs.Meaning.{geo, sectors_of, Image}
 use Rattle.disc.specs.Meaning.{meaning}
 use Rattle.disc.specs.Laws.{inside}

@@ -3,7 +3,8 @@
 use Rattle.std.specs.Prelude.{◌≡◌, ℕ, ◌<◌}
 use Rattle.std.proofs.Common.{sym, subst, arith}
 use Rattle.format.specs.Geometry.{pointed}
-use Rattle.format.specs.GeometryLaws.{OnDisc, pointed_on}
+use Rattle.format.specs.GeometryLaws.{OnDisc}
+use Rattle.format.proofs.GeometryLaws.{pointed_on}
 use Rattle.geometry.specs.Meaning.{geo, Valid, Starts}
 use Rattle.disc.specs.Meaning.{meaning, Inside, Lies, Reaches}
 use Rattle.geometry.specs.declared.Geometry.{Geometry}

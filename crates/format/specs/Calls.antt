@@ -4,8 +4,7 @@
 -- Assumes nothing.
 use Rattle.std.specs.Prelude.{ℕ, not, List, [], ◌∷◌, length, eqb, ltb}
 use Rattle.lists.specs.Lists.{is_some, front}
-use Rattle.format.specs.Refusals.{Try, Refusal, NAME, UNSOUND, ABSENT, TAKEN, PROTECTED, MODULE, ROOM, NOT-PLAIN, SHORT, NO-SECTOR}
-use Rattle.format.specs.Refusals.{BAD-LIST, number_of, refused, ok, ◌>>=◌, ◌>>◌, refuse◌if◌, ◌or_refuse◌, number, value_or}
+use Rattle.format.specs.Refusals.{Try, Refusal, NAME, UNSOUND, ABSENT, TAKEN, PROTECTED, MODULE, ROOM, NOT-PLAIN, SHORT, NO-SECTOR, BAD-LIST, number_of, refused, ok, ◌>>=◌, ◌>>◌, refuse◌if◌, ◌or_refuse◌, number, value_or}
 use Rattle.format.specs.Geometry.{Format, Geometry, geometry, sector_number, on_disc, Disc, cut, flat, Part, body_part, Write, written}
 use Rattle.format.specs.Names.{stored, disc_name}
 use Rattle.format.specs.Layout.{name_offset, attribute_offset, attribute_of, is_protected, protected_as, free, find}

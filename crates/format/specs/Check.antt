@@ -5,8 +5,7 @@ use Rattle.std.specs.Prelude.{ℕ, ◌-◌, Bool, true, false, not, ◌&&◌, Li
 use Rattle.lists.specs.Lists.{byte, all, any, elem, distinct, same, range, sum, last_or}
 use Rattle.format.specs.Refusals.{Try, refused, ok, ◌>>◌, refuse◌if◌}
 use Rattle.format.specs.Geometry.{Geometry, sectors, Next, stop, go, off, Disc, sector}
-use Rattle.format.specs.Layout.{in_use_offset, Slot, in_use, name_of, length_of, attribute_of, is_attribute, slots_at, used_count, free_count, chain_ends}
-use Rattle.format.specs.Layout.{directory_pointer, free_pointer, directory, free, entries, first_of, last_of, file_chain, file_sectors, places}
+use Rattle.format.specs.Layout.{in_use_offset, Slot, in_use, name_of, length_of, attribute_of, is_attribute, slots_at, used_count, free_count, chain_ends, directory_pointer, free_pointer, directory, free, entries, first_of, last_of, file_chain, file_sectors, places}
 use Rattle.format.specs.Names.{legal_stored}
 
 -- the number of the rule that a run of tests stopped at, or 0

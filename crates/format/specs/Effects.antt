@@ -6,9 +6,7 @@ use Rattle.std.proofs.Math.Option.{Option, none, some}
 use Rattle.std.proofs.lemmas.List.Edits.{sets}
 use Rattle.lists.specs.Lists.{is_some, byte, word, filter, elem, range, joined, sum, last_or}
 use Rattle.format.specs.Geometry.{Geometry, sectors, sector_number, Next, stop, go, Disc, sector, Write, written}
-use Rattle.format.specs.Layout.{free_offset, directory_offset, free_count_offset, disc_name_offset, version_offset, link_offset, in_use_offset, system}
-use Rattle.format.specs.Layout.{free_count, used_count, disc_name_of, attribute, Slot, slot_start, empty_slot, name_of, length_of, attribute_of, link_of}
-use Rattle.format.specs.Layout.{link_bytes, pair_bytes, free_pointer, directory, free, entries, open_slot, first_of, file_chain, file_sectors}
+use Rattle.format.specs.Layout.{free_offset, directory_offset, free_count_offset, disc_name_offset, version_offset, link_offset, in_use_offset, system, free_count, used_count, disc_name_of, attribute, Slot, slot_start, empty_slot, name_of, length_of, attribute_of, link_of, link_bytes, pair_bytes, free_pointer, directory, free, entries, open_slot, first_of, file_chain, file_sectors}
 use Rattle.format.specs.Modules.{Module, sectors_for, bodies, plain}
 
 -- ---- parts of sectors

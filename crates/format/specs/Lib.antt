@@ -1,5 +1,4 @@
 pub mod Refusals
-pub mod RefusalLaws
 pub mod Geometry
 pub mod Arrangements
 pub mod GeometryLaws
@@ -7,7 +6,6 @@ pub mod Formats
 pub mod Names
 pub mod NameLaws
 pub mod Layout
-pub mod SlotLaws
 pub mod ChainLaws
 pub mod Check
 pub mod CheckLaws
@@ -18,7 +16,6 @@ pub mod ModuleLaws
 pub mod Effects
 pub mod Writes
 pub mod Calls
-pub mod CallLaws
 pub mod WholeWrites
 pub mod WriteLaws
 pub mod ListedLaws

@@ -1,14 +1,11 @@
--- Laws of `listed`: how a command that gives a list of its writes comes out.
+-- What the laws of proofs/ListedLaws.antt speak of.
 -- Assumes nothing.
-use Rattle.std.specs.Prelude.{◌≡◌, refl, ℕ, ◌≤◌, Bool, length}
-use Rattle.std.proofs.Math.Bool.{true, false}
+use Rattle.std.specs.Prelude.{◌≡◌, ℕ, ◌≤◌, length}
 use mathlib.Core.List.{List}
-use Rattle.std.proofs.Math.Dec.{ltb}
-use Rattle.std.proofs.Common.{ltb-false}
-use Rattle.format.specs.Refusals.{Try, Refusal, SHORT, refused, ok, ◌>>=◌, ◌>>◌, refuse◌if◌, number}
-use Rattle.format.specs.Geometry.{Format, Geometry, geometry, Disc, cut, flat, Write, written}
+use Rattle.format.specs.Refusals.{Try, Refusal, refused, ok}
+use Rattle.format.specs.Geometry.{Format, Geometry, Disc, cut, flat, Write, written}
 use Rattle.format.specs.Writes.{write_list}
-use Rattle.format.specs.Calls.{Change, ChangeAnswer, listed, change_answer_by}
+use Rattle.format.specs.Calls.{Change, ChangeAnswer, change_answer_by}
 
 -- what is left where these sectors are written
 abbrev pub change_by : Format → Geometry → Disc → List Write → Change
@@ -19,24 +16,3 @@ pub data Outcome (F : Format) (G : Geometry) (image buffer : List ℕ) (f : Geom
   stays : (e : Refusal) → Outcome F G image buffer f (change_answer_by image buffer (refused e))
   writes : (ws : List Write) → f G (cut F G image) ≡ ok ws → length (write_list G ws) ≤ length buffer
       → Outcome F G image buffer f (change_answer_by image buffer (ok (change_by F G (cut F G image) ws)))
-
--- the number is that of the refusal, or 0
-pub change_number : (image buffer : List ℕ) (t : Try Refusal Change) → (change_answer_by image buffer t).number ≡ number t
-unfolding change_answer_by number
-change_number image buffer (refused e) = refl
-change_number image buffer (ok l) = refl
-
-module _ (F : Format) (image buffer : List ℕ) (f : Geometry → Disc → Try Refusal (List Write)) where
-  pub outcome : (G : Geometry) → geometry F (length image) ≡ ok G → Outcome F G image buffer f (change_answer_by image buffer (listed F image (length buffer) f))
-  unfolding listed ◌>>=◌ ◌>>◌ refuse◌if◌
-  outcome G g = rw g (by (f G (cut F G image)) refl)
-    where
-      fits : (ws : List Write) → f G (cut F G image) ≡ ok ws → (b : Bool) → ltb (length buffer) (length (write_list G ws)) ≡ b
-          → Outcome F G image buffer f (change_answer_by image buffer (refuse SHORT if b >> ok (change_by F G (cut F G image) ws)))
-      fits ws p true q = stays SHORT
-      fits ws p false q = writes ws p (ltb-false (length buffer) (length (write_list G ws)) q)
-
-      by : (t : Try Refusal (List Write)) → f G (cut F G image) ≡ t → Outcome F G image buffer f
-          (change_answer_by image buffer (t >>= λ ws. (refuse SHORT if ltb (length buffer) (length (write_list G ws)) >> ok (change_by F G (cut F G image) ws))))
-      by (refused e) p = stays e
-      by (ok ws) p = fits ws p (ltb (length buffer) (length (write_list G ws))) refl

@@ -7,8 +7,7 @@ use Rattle.format.specs.Refusals.{Try, Refusal, SIZE, refused, ok, ◌>>=◌, va
 use Rattle.format.specs.Geometry.{Format, stated, arranged, geometry, cut, flat, Part, moved_part, bytes_of}
 use Rattle.format.specs.Modules.{Module}
 use Rattle.format.specs.Calls as calls
-use Rattle.format.specs.Calls.{Answer, answered, ChangeAnswer, change_answer_by, list_answer_by, read_answer_by, after_check, after_list, after_read}
-use Rattle.format.specs.Calls.{after_save, after_delete, after_rename, after_protect, after_replay, after_repair, after_blank, view_number, view_part}
+use Rattle.format.specs.Calls.{Answer, answered, ChangeAnswer, change_answer_by, list_answer_by, read_answer_by, after_check, after_list, after_read, after_save, after_delete, after_rename, after_protect, after_replay, after_repair, after_blank, view_number, view_part}
 
 -- an arrangement of a track's places: each sector of the track once
 abbrev pub Arrangement : Format → List ℕ → Type 0

@@ -11,12 +11,13 @@ use Rattle.std.proofs.Math.Dec.{eqb}
 use Rattle.lists.specs.Lists.{all, elem, distinct, range, sum}
 use Rattle.lists.specs.ListLaws.{and_true, All, done, ◌also◌, all_map, all_join, all_joined}
 use Rattle.format.specs.Geometry.{Geometry, sectors, Next, Disc}
-use Rattle.format.specs.GeometryLaws.{OnDisc, pointed_on}
-use Rattle.format.specs.Layout.{Slot, length_of, used_count, free_count, chain, chain_ends, directory_pointer}
-use Rattle.format.specs.Layout.{free_pointer, directory, free, entries, file_chain, file_sectors, first_of, places}
-use Rattle.format.specs.ChainLaws.{met_below}
+use Rattle.format.specs.GeometryLaws.{OnDisc}
+use Rattle.format.proofs.GeometryLaws.{pointed_on}
+use Rattle.format.specs.Layout.{Slot, length_of, used_count, free_count, chain, chain_ends, directory_pointer, free_pointer, directory, free, entries, file_chain, file_sectors, first_of, places}
+use Rattle.format.proofs.ChainLaws.{met_below}
 use Rattle.format.specs.Check.{elsewhere, good_chain, rule1, rule2, rule3, rule4, rule5, rule6, rule7, rule8, broken}
-use Rattle.format.specs.CheckLaws.{RulesTo5, broken_5}
+use Rattle.format.specs.CheckLaws.{RulesTo5}
+use Rattle.format.proofs.CheckLaws.{broken_5}
 use Rattle.geometry.specs.Meaning.{geo, Valid}
 use Rattle.geometry.specs.declared.Geometry as code
 use Rattle.geometry.specs.declared.SectorNo.{SectorNo}

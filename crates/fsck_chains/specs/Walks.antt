@@ -10,7 +10,7 @@ use Rattle.std.proofs.Math.ListN.{length}
 use Rattle.lists.specs.Lists.{last_or}
 use Rattle.format.specs.Geometry.{Geometry, sectors, Next, stop, go, off, Disc, sector}
 use Rattle.format.specs.Layout.{link_of, met, ends, chain, chain_ends}
-use Rattle.format.specs.ChainLaws.{met_stop, ends_stop, ends_off, ends_none}
+use Rattle.format.proofs.ChainLaws.{met_stop, ends_stop, ends_off, ends_none}
 use Rattle.geometry.specs.declared.SectorNo.{SectorNo}
 use Rattle.fsck_chains.specs.Marks.{marked, fresh}
 use Rattle.fsck_chains.specs.declared.Followed.{Followed}

@@ -12,9 +12,8 @@ use borrow.Author.Tests.{le-leb}
 use Rattle.lists.specs.Lists.{all, byte}
 use Rattle.lists.specs.ListLaws.{drop_take, test_join, and_exchange}
 use Rattle.format.specs.Geometry.{Geometry, Disc, sector}
-use Rattle.format.specs.Layout.{slots_each, in_use_offset, is_attribute, Slot, free_slot, in_use, name_of}
-use Rattle.format.specs.Layout.{length_of, attribute_of, slot_at, slots_at, slots_of, directory, slots, entries}
-use Rattle.format.specs.SlotLaws.{in_use_join}
+use Rattle.format.specs.Layout.{slots_each, in_use_offset, is_attribute, Slot, free_slot, in_use, name_of, length_of, attribute_of, slot_at, slots_at, slots_of, directory, slots, entries}
+use Rattle.format.proofs.SlotLaws.{in_use_join}
 use Rattle.format.specs.Names.{letter, space, spaced, legal_stored}
 use Rattle.format.specs.Check.{good_entry, counted, rule3}
 use Rattle.byte_loops.specs.Laws.{slice_over, slice_step, all_over}

@@ -8,12 +8,11 @@ use Rattle.std.proofs.Math.Bool.{true, false, cond, ◌&&◌, and-false}
 use Rattle.std.proofs.Math.Bool as Bool
 use mathlib.Core.List.{List, [], ◌∷◌, ◌++◌, map, append-nil, map-append}
 use Rattle.lists.specs.Lists.{all, joined, sum, last_or}
-use Rattle.lists.specs.ListLaws.{and_true, joined_join, sum_join}
+use Rattle.lists.specs.ListLaws.{and_true, joined_join, sum_join, test_join, and_exchange}
 use Rattle.format.specs.Geometry.{Geometry, sectors, Next, Disc}
 use Rattle.format.specs.Layout.{Slot, length_of, chain, chain_ends, first_of, last_of, file_chain}
-use Rattle.format.specs.ChainLaws.{met_few}
+use Rattle.format.proofs.ChainLaws.{met_few}
 use Rattle.format.specs.Check.{at?, good_chain}
-use Rattle.lists.specs.ListLaws.{test_join, and_exchange}
 use Rattle.geometry.specs.declared.SectorNo.{SectorNo}
 use Rattle.fsck_chains.specs.Marks.{marked, fresh, marked_join, fresh_join}
 use Rattle.fsck_chains.specs.Walks.{Walked, ended, walk_broken, walk_ended}

@@ -13,11 +13,11 @@ use Rattle.format.specs.Refusals.{Try, Refusal, SIZE, refused, ok, refuseâ—Œifâ—
 use Rattle.format.specs.Geometry as format
 use Rattle.format.specs.Geometry.{Format, ten, ten_moved, nine, unknown, stated, tracked, geometry, on_disc, sector_number, place_of, start_of, flat, Disc, sector}
 use Rattle.format.specs.Arrangements.{Arranged}
-use Rattle.format.specs.Formats.{GoodFormat, ten_good, moved_good, nine_good, other_arrangement, other_sectors, nine_moved}
-use Rattle.format.specs.GeometryLaws.{Full, byte_cut, cut_full, flat_cut, place_below, plain_place, no_disc, geometry_ok, geometry_rest}
-use Rattle.format.specs.GeometryLaws.{geometry_none, geometry_many, geometry_done, on_disc_is, number_below, track_back, sector_back}
-use Rattle.geometry.specs.Meaning.{kind_of, known, whole_tracks, packed, places_of, place_in, formed, form, geo}
-use Rattle.geometry.specs.Meaning.{sized, sized_as, sectors_of, Valid, Image, Starts}
+use Rattle.format.specs.Formats.{GoodFormat}
+use Rattle.format.proofs.Formats.{ten_good, moved_good, nine_good, other_arrangement, other_sectors, nine_moved}
+use Rattle.format.specs.GeometryLaws.{Full}
+use Rattle.format.proofs.GeometryLaws.{byte_cut, cut_full, flat_cut, place_below, plain_place, no_disc, geometry_ok, geometry_rest, geometry_none, geometry_many, geometry_done, on_disc_is, number_below, track_back, sector_back}
+use Rattle.geometry.specs.Meaning.{kind_of, known, whole_tracks, packed, places_of, place_in, formed, form, geo, sized, sized_as, sectors_of, Valid, Image, Starts}
 use Rattle.geometry.specs.declared.Geometry.{Geometry}
 use Rattle.geometry.specs.declared.Stated.{Stated}
 use Rattle.geometry.specs.declared.Sized.TheVariants.{Of, Wrong}

@@ -13,8 +13,7 @@ use Rattle.format.specs.Modules.{Module}
 use Rattle.format.specs.Check.{files_hold}
 use Rattle.format.specs.Effects.{body, unmet}
 use Rattle.format.specs.Writes.{writes_in}
-use Rattle.format.specs.Calls.{save_on, delete_on, rename_on, protect_on, changed, Answer, answer_by, ChangeAnswer}
-use Rattle.format.specs.Calls.{after_check, after_read, after_save, after_delete, after_rename, after_protect, after_repair}
+use Rattle.format.specs.Calls.{save_on, delete_on, rename_on, protect_on, changed, Answer, answer_by, ChangeAnswer, after_check, after_read, after_save, after_delete, after_rename, after_protect, after_repair}
 use Rattle.history.specs.History.{Command, nine_of, opening_book}
 use Rattle.history.specs.Demand3.{is_sound, Handed}
 

@@ -14,8 +14,7 @@ use Rattle.format.specs.Names.{stored}
 use Rattle.format.specs.Layout.{free_count, chain_ends, directory_pointer, free_pointer, first_of, free, entries, places}
 use Rattle.format.specs.Modules.{Module}
 use Rattle.format.specs.Calls.{CheckAnswer, read_answer_by, after_read, after_save, after_check, after_blank}
-use Rattle.history.specs.History.{Command, list, read, save, delete, rename, protect, check, view, File, Book, named}
-use Rattle.history.specs.History.{run, book_after, opening_book, says, sum_directory, sum_files, sum_free, save_says}
+use Rattle.history.specs.History.{Command, list, read, save, delete, rename, protect, check, view, File, Book, named, run, book_after, opening_book, says, sum_directory, sum_files, sum_free, save_says}
 
 -- the check's answer for a sound image
 abbrev pub is_sound : CheckAnswer

@@ -7,19 +7,15 @@ use Rattle.lists.specs.Lists.{byte, range}
 use Rattle.format.specs.Refusals.{◌>>=◌, ◌>>◌, refuse◌if◌, ◌or_refuse◌, number, value_or}
 use Rattle.format.specs.Geometry.{ten, Geometry, tracked, geometry, pointed, place_of, sector_at, chunks, reordered, cut, flat}
 use Rattle.format.specs.Names.{letter, letters, before_dot, after_dot, with_extension, stored, disc_name, spaced, legal_stored}
-use Rattle.format.specs.Layout.{empty_slot, free_slot, in_use, slot_at, slots_at, slots_of, met, ends, directory}
-use Rattle.format.specs.Layout.{free, slots, entries, open_slot, find, file_chain, file_sectors, name_of}
+use Rattle.format.specs.Layout.{empty_slot, free_slot, in_use, slot_at, slots_at, slots_of, met, ends, directory, free, slots, entries, open_slot, find, file_chain, file_sectors, name_of}
 use Rattle.format.specs.Modules.{Module, is_module, storable, sectors_for, first_body, later_body, later_bodies, bodies, guessed, plain}
 use Rattle.format.specs.Check.{good_entry, differ, rule1, rule2, counted, rule3, rule4, good_chain, rule5, files_hold, rule6, rule7, rule8, broken}
-use Rattle.format.specs.Effects.{with_slot, chained, system_write, entry_bytes, growth, needed, entry_writes, save_writes}
-use Rattle.format.specs.Effects.{delete_writes, reading, passing, version, blank_free, blank_system, blank_disc, unmet, repair_writes}
+use Rattle.format.specs.Effects.{with_slot, chained, system_write, entry_bytes, growth, needed, entry_writes, save_writes, delete_writes, reading, passing, version, blank_free, blank_system, blank_disc, unmet, repair_writes}
 use Rattle.format.specs.Writes.{record_of, write_list, held_after}
-use Rattle.format.specs.Calls.{save_before_on, save_on, delete_on, rename_on, protect_on, replay_on, repair_on, asked, changed, listed, blank, answer_by, change_answer_by}
-use Rattle.format.specs.Calls.{check_answer_by, after_check, after_save, after_delete, after_rename, after_protect, after_replay, after_repair, after_blank}
+use Rattle.format.specs.Calls.{save_before_on, save_on, delete_on, rename_on, protect_on, replay_on, repair_on, asked, changed, listed, blank, answer_by, change_answer_by, check_answer_by, after_check, after_save, after_delete, after_rename, after_protect, after_replay, after_repair, after_blank}
 use Rattle.history.specs.History.{Command, step, accepted, entered, opening_book}
 use Rattle.history.specs.Cuts.{Writing, save, delete, rename, writes_on, after_writing, cut_on, after_cut, is_done}
-use Rattle.history.specs.Events.{Ledger, speaks, silent, waits, happens, after_command, pulled_book, after_pulled, after_repaired, after_new}
-use Rattle.history.specs.Events.{followed, settled, ledger_after, Call, command, pulled, repair, replay, blank as blanked, event_of}
+use Rattle.history.specs.Events.{Ledger, speaks, silent, waits, happens, after_command, pulled_book, after_pulled, after_repaired, after_new, followed, settled, ledger_after, Call, command, pulled, repair, replay, blank as blanked, event_of}
 
 -- the disc `P` of one track, and the names `A` and `B`
 one : Geometry

@@ -6,7 +6,7 @@ use denote.Enum.Declared.{tag_of}
 use Rattle.format.specs.Geometry as format
 use Rattle.format.specs.Geometry.{go, Disc}
 use Rattle.format.specs.Layout.{met}
-use Rattle.format.specs.ChainLaws.{met_stop, met_off}
+use Rattle.format.proofs.ChainLaws.{met_stop, met_off}
 use Rattle.disc.specs.contracts.Link.{the_type}
 use Rattle.disc.specs.Meaning.{meaning, Inside}
 use Rattle.geometry.specs.declared.Geometry.{Geometry}

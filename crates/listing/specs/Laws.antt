@@ -11,11 +11,10 @@ use Rattle.lists.specs.Lists.{word, joined}
 use Rattle.lists.specs.ListLaws.{All, done, ◌also◌, all_map, all_filter, all_joined, all_mapped, range_all, joined_join}
 use Rattle.lists.specs.Counts.{filter_parts}
 use Rattle.format.specs.Geometry.{Geometry, sectors, Disc, sector}
-use Rattle.format.specs.GeometryLaws.{pointed_on, sector_full}
-use Rattle.format.specs.ChainLaws.{met_few, met_below}
-use Rattle.format.specs.Layout.{disc_name_offset, free_count, used_count, disc_name_of, directory_pointer, directory, slots, entries}
-use Rattle.format.specs.Layout.{slots_each, Slot, free_slot, in_use, name_of, length_of, attribute_of, slot_at, slots_at, slots_of}
-use Rattle.format.specs.SlotLaws.{in_use_join}
+use Rattle.format.proofs.GeometryLaws.{pointed_on, sector_full}
+use Rattle.format.proofs.ChainLaws.{met_few, met_below}
+use Rattle.format.specs.Layout.{disc_name_offset, free_count, used_count, disc_name_of, directory_pointer, directory, slots, entries, slots_each, Slot, free_slot, in_use, name_of, length_of, attribute_of, slot_at, slots_at, slots_of}
+use Rattle.format.proofs.SlotLaws.{in_use_join}
 use Rattle.format.specs.Effects.{listing}
 use Rattle.geometry.specs.Meaning.{geo, sectors_of, Image}
 use Rattle.geometry.specs.declared.Geometry as code

@@ -5,9 +5,7 @@ use Rattle.std.proofs.Common.{sym, ap, ◌∙◌, arith, true≢false, length-ap
 use Rattle.std.proofs.Math.Decide.{dec_le, ℕ_discrete}
 use Rattle.std.proofs.lemmas.Bool.{false≢true}
 use Rattle.lists.specs.Lists.{all, elem, cons_if, filter, range, times, last_or, Once}
-use Rattle.lists.specs.ListLaws.{and_true, zero_or, All, all_map, all_true, all_at, filter_yes, filter_no, all_filter, filter_all}
-use Rattle.lists.specs.ListLaws.{times_none, times_join, times_here, times_past, times_elem, none_elem, once_long}
-use Rattle.lists.specs.ListLaws.{all_range, range_all, last_in}
+use Rattle.lists.specs.ListLaws.{and_true, zero_or, All, all_map, all_true, all_at, filter_yes, filter_no, all_filter, filter_all, times_none, times_join, times_here, times_past, times_elem, none_elem, once_long, all_range, range_all, last_in}
 
 -- what stands in a list stands in the list with one more
 pub times_more : (n m : ℕ) (xs : List ℕ) → 0 < times n xs → 0 < times n (m ∷ xs)

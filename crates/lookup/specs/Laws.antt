@@ -7,7 +7,7 @@ use Rattle.std.proofs.Math.Bool.{true, false}
 use Rattle.std.proofs.Math.Option.{Option, none, some}
 use borrow.Author.Tests.{not-false}
 use Rattle.format.specs.Refusals.{Try, Refusal, NAME, UNSOUND, ABSENT, number_of, refused, ok, ◌>>=◌, ◌>>◌, refuse◌if◌, ◌or_refuse◌}
-use Rattle.format.specs.RefusalLaws.{refused_ok, ok_is, or_ok, if_ok, then_ok, refusal_number}
+use Rattle.format.proofs.RefusalLaws.{refused_ok, ok_is, or_ok, if_ok, then_ok, refusal_number}
 use Rattle.format.specs.Geometry.{Geometry, Disc}
 use Rattle.format.specs.Names.{stored, legal_stored}
 use Rattle.format.specs.Layout.{Slot, find}

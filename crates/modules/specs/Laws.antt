@@ -7,7 +7,7 @@ use Rattle.std.proofs.lemmas.List.Edits.{sets}
 use Rattle.lists.specs.Lists.{padded, word}
 use Rattle.lists.specs.ListLaws.{take_part}
 use Rattle.format.specs.Geometry.{Disc, sector}
-use Rattle.format.specs.GeometryLaws.{sector_again}
+use Rattle.format.proofs.GeometryLaws.{sector_again}
 use Rattle.format.specs.Modules.{Module, end_of, bodies, first_body, later_body, later_bodies, sectors_for}
 use Rattle.disc.specs.Meaning.{stored_at}
 use Rattle.lists.specs.Stores.{sets_append, sets_whole}

@@ -5,7 +5,7 @@ use Rattle.std.proofs.Common.{sym, ap, ◌∙◌, true≢false}
 use Rattle.std.proofs.lemmas.Bool.{false≢true}
 use Rattle.std.proofs.Math.Option.{Option, none, some}
 use Rattle.format.specs.Names.{stored, legal_stored}
-use Rattle.format.specs.NameLaws.{stored_legal}
+use Rattle.format.proofs.NameLaws.{stored_legal}
 use Rattle.names.specs.declared.Parsed.{Parsed}
 
 -- refused: false and nine zero bytes; accepted: true and the nine bytes as stored

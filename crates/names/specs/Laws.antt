@@ -13,7 +13,7 @@ use Rattle.std.proofs.lemmas.List.{replicate-append-replicate}
 use Rattle.std.proofs.Math.Seq.{drop-cons, take_all, take-length, take-append_seam, drop-append-add, paste}
 use Rattle.lists.specs.Lists.{all, padded}
 use Rattle.lists.specs.ListLaws.{padded_long}
-use Rattle.format.specs.NameLaws.{letters_true}
+use Rattle.format.proofs.NameLaws.{letters_true}
 use Rattle.format.specs.Names.{letters, dot, space, before_dot, after_dot, nine_bytes, with_extension, stored}
 
 -- ---- a loop over a list, at index i (`simp` takes `within` and `past` from what is in scope)

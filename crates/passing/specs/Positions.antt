@@ -4,8 +4,8 @@ use Rattle.std.specs.Prelude.{◌≡◌, ℕ, ◌+◌, ◌*◌, ◌/◌, ◌%◌
 use Rattle.std.proofs.Common.{sym, ap, ap₂, subst, ◌∙◌, arith, add-one, mod-lt, mul-suc, mul-le-mul, mul-le-mul_left, drop_of_length-le, drop-cons}
 use Rattle.std.proofs.Math.Nat.{mul-add-div, div-eq_of_lt, div-add-mod}
 use Rattle.format.specs.Geometry.{sector_number, on_disc, stop, go}
-use Rattle.format.specs.GeometryLaws.{is_on_disc, track_range, track_back, sector_back}
-use Rattle.format.specs.Formats.{order_long, order_range}
+use Rattle.format.proofs.GeometryLaws.{is_on_disc, track_range, track_back, sector_back}
+use Rattle.format.proofs.Formats.{order_long, order_range}
 use Rattle.format.specs.Layout.{track_byte, sector_byte}
 use Rattle.format.specs.Effects.{head_of, passing}
 use Rattle.geometry.specs.Meaning.{geo, Valid}

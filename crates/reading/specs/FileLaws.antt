@@ -15,9 +15,9 @@ use Rattle.lists.specs.Lists.{byte, word_at}
 use Rattle.lists.specs.ListLaws.{and_true, all_map, all_mapped}
 use Rattle.format.specs.Geometry as format
 use Rattle.format.specs.Geometry.{Next, stop, go, off, pointed, on_disc, sector_number, Disc, sector}
-use Rattle.format.specs.GeometryLaws.{pointed_on, sector_full}
+use Rattle.format.proofs.GeometryLaws.{pointed_on, sector_full}
 use Rattle.format.specs.Layout.{Slot, length_of, link_of, met, first_of, file_chain}
-use Rattle.format.specs.ChainLaws.{met_stop, met_off, met_none, met_go, met_below, chain_met}
+use Rattle.format.proofs.ChainLaws.{met_stop, met_off, met_none, met_go, met_below, chain_met}
 use Rattle.format.specs.Modules.{end_of, sectors_for, guessed, plain}
 use Rattle.format.specs.Effects.{body, reading}
 use Rattle.format.specs.RuleLaws.{GoodChain}

@@ -16,7 +16,8 @@ use borrow.Author.Tests.{eq-eqb, ne_eqb, eqb-true, le-leb, leb-true}
 use Rattle.lists.specs.Lists.{byte, word, word_at, padded, same_all}
 use Rattle.lists.specs.ListLaws.{and_true, true_and, All, done, ◌also◌, same_all_refl, same_all_true}
 use Rattle.format.specs.Modules.{Module, end_of, is_module, sectors_for, first_body, later_body, later_bodies, bodies, guessed, plain}
-use Rattle.format.specs.ModuleLaws.{IsModule, module_true, true_module, sectors_fit, bodies_many}
+use Rattle.format.specs.ModuleLaws.{IsModule}
+use Rattle.format.proofs.ModuleLaws.{module_true, true_module, sectors_fit, bodies_many}
 use Rattle.reading.specs.Plain.{size_of, filled, numbered, headed, later_filled, later_bytes}
 use Rattle.reading.specs.PartLaws.{part, part_filled, filled_part, first_part, other_parts}
 

@@ -11,7 +11,7 @@ use Rattle.geometry.specs.Laws.{each_once}
 use Rattle.lists.specs.Lists.{all, byte}
 use Rattle.lists.specs.ListLaws.{drop_take}
 use Rattle.format.specs.Geometry.{start_of, sector}
-use Rattle.format.specs.GeometryLaws.{sector_cut, byte_cut}
+use Rattle.format.proofs.GeometryLaws.{sector_cut, byte_cut}
 use Rattle.format.specs.Effects.{body}
 use Rattle.geometry.specs.Meaning.{geo, sectors_of, Image, form}
 use Rattle.geometry.specs.declared.Geometry.{Geometry}

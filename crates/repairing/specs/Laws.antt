@@ -12,7 +12,7 @@ use Rattle.std.proofs.Math.ListN.{length}
 use Rattle.lists.specs.Lists.{elem, cons_if, filter, times}
 use Rattle.lists.specs.ListLaws.{All, done, ◌also◌, all_map, at_all, all_filter}
 use Rattle.format.specs.Geometry.{Geometry, sectors, Next, Disc, sector, pointed, written}
-use Rattle.format.specs.GeometryLaws.{sector_full}
+use Rattle.format.proofs.GeometryLaws.{sector_full}
 use Rattle.format.specs.Layout.{track_byte, sector_byte, directory, file_sectors}
 use Rattle.format.specs.Effects.{body, head_of, chained, system_write, passing, unmet, repair_writes}
 use Rattle.lists.specs.Counts.{times_kept, times_lost}

@@ -16,7 +16,7 @@ use Rattle.lists.specs.ListLaws.{and_true}
 use Rattle.format.specs.Refusals.{BAD-LIST, refused, number, ◌or_refuse◌}
 use Rattle.format.specs.Geometry.{Geometry, on_disc, Disc, Write, written}
 use Rattle.format.specs.Writes.{and_then, ended, held}
-use Rattle.format.specs.WriteLaws.{held_record, held_end}
+use Rattle.format.proofs.WriteLaws.{held_record, held_end}
 use Rattle.format.specs.Calls.{replay_on}
 use Rattle.geometry.specs.declared.Geometry as code
 use Rattle.geometry.specs.Meaning.{geo, Valid}

@@ -14,7 +14,7 @@ use Rattle.format.specs.Refusals.{ok}
 use Rattle.format.specs.Geometry.{Disc, written}
 use Rattle.format.specs.Layout.{Slot, met, free_pointer, directory, free, open_slot}
 use Rattle.format.specs.Modules.{Module, sectors_for}
-use Rattle.format.specs.ModuleLaws.{sectors_fit}
+use Rattle.format.proofs.ModuleLaws.{sectors_fit}
 use Rattle.format.specs.Effects.{head_of, needed, save_writes}
 use Rattle.format.specs.Writes.{list_size}
 use Rattle.format.specs.WriteLaws.{WholeOn}

@@ -10,7 +10,7 @@ use Rattle.std.proofs.Math.ListN.{length}
 use borrow.Author.Tests.{not-false, leb-true, leb-false, lt-ltb, le-ltb, ltb-false}
 use Rattle.lists.specs.Lists.{is_some}
 use Rattle.format.specs.Refusals.{Try, Refusal, NAME, MODULE, UNSOUND, TAKEN, ROOM, refused, ok, ◌>>=◌, ◌>>◌, refuse◌if◌, ◌or_refuse◌}
-use Rattle.format.specs.RefusalLaws.{ok_is, or_ok, if_ok}
+use Rattle.format.proofs.RefusalLaws.{ok_is, or_ok, if_ok}
 use Rattle.format.specs.Geometry.{Geometry, Disc, Write}
 use Rattle.format.specs.Names.{stored}
 use Rattle.format.specs.Layout.{Slot, free, open_slot, find}

@@ -11,7 +11,7 @@ use Rattle.std.proofs.Math.Seq.{take_all, length-take-le}
 use Rattle.lists.specs.Lists.{times, last_or}
 use Rattle.lists.specs.ListLaws.{times_split, times_here, times_past}
 use Rattle.format.specs.Geometry.{Geometry, Next, stop, go, off, Disc, sector, written}
-use Rattle.format.specs.GeometryLaws.{sector_other}
+use Rattle.format.proofs.GeometryLaws.{sector_other}
 use Rattle.format.specs.Layout.{link_of, link_bytes, met, free_pointer, free}
 use Rattle.format.specs.Effects.{head_of, chained}
 use Rattle.soundness.specs.WriteFacts.{Savable}

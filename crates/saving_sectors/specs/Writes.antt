@@ -13,10 +13,10 @@ use Rattle.std.proofs.Math.Seq.{take-take, length-take-le}
 use Rattle.lists.specs.Lists.{is_some, byte, times, last_or}
 use Rattle.lists.specs.ListLaws.{zero_or, times_none, times_join, times_split, times_here, times_past}
 use Rattle.format.specs.Geometry.{Geometry, Next, go, Disc, sector, Write, written}
-use Rattle.format.specs.GeometryLaws.{sector_other, written_other}
+use Rattle.format.proofs.GeometryLaws.{sector_other, written_other}
 use Rattle.format.specs.Layout.{link_offset, in_use_offset, free_count, used_count, Slot, link_of, link_bytes, directory, free_pointer, free, open_slot}
 use Rattle.format.specs.Modules.{Module, sectors_for, bodies}
-use Rattle.format.specs.ModuleLaws.{sectors_fit, bodies_many}
+use Rattle.format.proofs.ModuleLaws.{sectors_fit, bodies_many}
 use Rattle.format.specs.Effects.{with_slot, with_link, entry_write, chained, system_write, entry_bytes, growth, needed, entry_writes, save_writes}
 use Rattle.soundness.specs.ChainWrites.{written_join, chained_other}
 use Rattle.lists.specs.Counts.{last_of}

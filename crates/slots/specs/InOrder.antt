@@ -9,7 +9,7 @@ use mathlib.Core.List.{List, [], ◌∷◌, ◌++◌, map}
 use Rattle.lists.specs.Lists.{range, cons_if}
 use Rattle.format.specs.Geometry.{Disc}
 use Rattle.format.specs.Layout.{slots_each, Slot, free_slot, in_use, slot_at, slots_at}
-use Rattle.format.specs.SlotLaws.{in_use_join}
+use Rattle.format.proofs.SlotLaws.{in_use_join}
 
 -- ---- slots in use
 

@@ -8,7 +8,7 @@ use Rattle.geometry.specs.Laws.{each_once, start_fits}
 use Rattle.lists.specs.Lists.{all, same}
 use Rattle.lists.specs.ListLaws.{drop_take}
 use Rattle.format.specs.Geometry.{start_of, sector, Disc}
-use Rattle.format.specs.GeometryLaws.{sector_cut}
+use Rattle.format.proofs.GeometryLaws.{sector_cut}
 use Rattle.geometry.specs.Meaning.{geo, sectors_of, Image, form}
 use Rattle.geometry.specs.declared.Geometry.{Geometry}
 use Rattle.format.specs.Layout.{slots_each, slot_start, slot_at, name_of, empty_slot, free_slot}

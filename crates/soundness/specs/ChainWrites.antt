@@ -11,7 +11,8 @@ use Rattle.std.proofs.lemmas.List.{length-map}
 use Rattle.lists.specs.Lists.{times, last_or}
 use Rattle.lists.specs.ListLaws.{All, done, ◌also◌, head_of_all, tail_of, all_map, times_none, times_here, times_past}
 use Rattle.format.specs.Geometry.{Geometry, sectors, Next, stop, go, Disc, sector, Write, written}
-use Rattle.format.specs.GeometryLaws.{sector_other, sector_same, Full, full_set}
+use Rattle.format.specs.GeometryLaws.{Full}
+use Rattle.format.proofs.GeometryLaws.{sector_other, sector_same, full_set}
 use Rattle.format.specs.Layout.{link_bytes, link_of}
 use Rattle.format.specs.ChainLaws.{Chain, end, on}
 use Rattle.format.specs.Effects.{body, head_of, chained}

@@ -9,7 +9,8 @@ use Rattle.std.proofs.Math.ListN.{length-append}
 use Rattle.lists.specs.Lists.{times}
 use Rattle.lists.specs.ListLaws.{All, done, ◌also◌, all_map, times_here, times_past}
 use Rattle.format.specs.Geometry.{Geometry, sectors, track_of, sector_of, Disc, sector, Write, written}
-use Rattle.format.specs.GeometryLaws.{sector_same, written_other, Full, sector_full}
+use Rattle.format.specs.GeometryLaws.{Full}
+use Rattle.format.proofs.GeometryLaws.{sector_same, written_other, sector_full}
 use Rattle.format.specs.Writes.{record_of, write_list}
 use Rattle.format.specs.WriteLaws.{WholeOn}
 use Rattle.soundness.specs.ListedWrites.{targets}

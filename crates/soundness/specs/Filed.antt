@@ -8,14 +8,15 @@ use mathlib.Core.List.{List, [], ◌∷◌, map, ◌++◌}
 use Rattle.lists.specs.Lists.{joined, times, word_at}
 use Rattle.lists.specs.ListLaws.{zero_or, All, done, ◌also◌, all_join, times_join, times_here, times_past, all_at, same_true}
 use Rattle.format.specs.Geometry.{Geometry, sectors, Next, go, Disc}
-use Rattle.format.specs.GeometryLaws.{OnDisc, pointed_on}
-use Rattle.format.specs.Layout.{length_offset, Slot, empty_slot, free_slot, in_use, slots_of, directory_pointer}
-use Rattle.format.specs.Layout.{directory, slots, entries, first_of, file_chain, file_sectors}
-use Rattle.format.specs.ChainLaws.{met_below, Chain, end, on, chain_met}
+use Rattle.format.specs.GeometryLaws.{OnDisc}
+use Rattle.format.proofs.GeometryLaws.{pointed_on}
+use Rattle.format.specs.Layout.{length_offset, Slot, empty_slot, free_slot, in_use, slots_of, directory_pointer, directory, slots, entries, first_of, file_chain, file_sectors}
+use Rattle.format.specs.ChainLaws.{Chain, end, on}
+use Rattle.format.proofs.ChainLaws.{met_below, chain_met}
 use Rattle.format.specs.CheckLaws.{RulesTo5}
 use Rattle.format.specs.NameCounts.{called}
-use Rattle.format.specs.RuleLaws.{GoodEntry, GoodChain, Counted, Apart, rule1_says, says_rule1, rule2_says, says_rule2}
-use Rattle.format.specs.RuleLaws.{rule3_says, says_rule3, rule4_says, says_rule4, rule5_says, says_rule5}
+use Rattle.format.specs.RuleLaws.{GoodEntry, GoodChain, Counted, Apart}
+use Rattle.format.proofs.RuleLaws.{rule1_says, says_rule1, rule2_says, says_rule2, rule3_says, says_rule3, rule4_says, says_rule4, rule5_says, says_rule5}
 use Rattle.lists.specs.Counts.{few_below, OneOf}
 use Rattle.soundness.specs.Slots.{is_used}
 

@@ -12,9 +12,11 @@ use Rattle.lists.specs.Lists.{same, filter, sum, times, last_or}
 use Rattle.lists.specs.ListLaws.{all_filter, filter_all, filter_join, filter_yes, head_all, head_none, none_long, all_at, same_true, true_same}
 use Rattle.lists.specs.Counts.{last_of, OneOf}
 use Rattle.format.specs.Geometry.{Geometry, sectors, Disc, sector}
-use Rattle.format.specs.GeometryLaws.{Full, sector_full}
+use Rattle.format.specs.GeometryLaws.{Full}
+use Rattle.format.proofs.GeometryLaws.{sector_full}
 use Rattle.format.specs.Layout.{slots_each, slot_start, Slot, free_slot, name_of, length_of, slot_at, slots_of, slots, open_slot, find, file_chain}
-use Rattle.format.specs.NameCounts.{of_name, called, called_at, called_here}
+use Rattle.format.specs.NameCounts.{of_name, called}
+use Rattle.format.proofs.NameCounts.{called_at, called_here}
 use Rattle.soundness.specs.Slots.{is_used, in_use_all, in_use_used, in_use_many, SlotOf, slots_of_each, slots_many, slot_bytes}
 use Rattle.format.specs.RuleLaws.{GoodEntry, GoodChain, Counted}
 use Rattle.soundness.specs.Filed.{entries_of, chains_of, Filed, filed_one, directory_is, entries_are}

@@ -9,8 +9,10 @@ use Rattle.lists.specs.Lists.{sum, times, last_or}
 use Rattle.lists.specs.ListLaws.{All, done, ◌also◌, all_map, times_join, at_all, once_long, joined_join, sum_join}
 use Rattle.format.specs.Geometry.{Geometry, sectors, go, Disc}
 use Rattle.format.specs.Layout.{Slot, length_of, first_of, last_of, file_chain}
-use Rattle.format.specs.ChainLaws.{Chain, chain_met, SameLink, chain_frame}
-use Rattle.format.specs.RuleLaws.{GoodChain, chain_few}
+use Rattle.format.specs.ChainLaws.{Chain, SameLink}
+use Rattle.format.proofs.ChainLaws.{chain_met, chain_frame}
+use Rattle.format.specs.RuleLaws.{GoodChain}
+use Rattle.format.proofs.RuleLaws.{chain_few}
 use Rattle.soundness.specs.Filed.{entries_of, chains_of}
 use Rattle.soundness.specs.Laid.{Laid}
 

@@ -6,12 +6,14 @@ use Rattle.std.proofs.Common.{arith, length-append, eq-eqb}
 use Rattle.lists.specs.Lists.{sum, times, Once}
 use Rattle.lists.specs.ListLaws.{all_join, once_long}
 use Rattle.format.specs.Geometry.{Geometry, sectors, Disc}
-use Rattle.format.specs.GeometryLaws.{pointed_on}
+use Rattle.format.proofs.GeometryLaws.{pointed_on}
 use Rattle.format.specs.Layout.{free_count, used_count, length_of, free_pointer, directory, free, slots, entries, file_sectors}
-use Rattle.format.specs.ChainLaws.{Chain, chain_met}
+use Rattle.format.specs.ChainLaws.{Chain}
+use Rattle.format.proofs.ChainLaws.{chain_met}
 use Rattle.format.specs.Check.{broken}
-use Rattle.format.specs.CheckLaws.{Rules, sound_rules, rules_sound}
-use Rattle.format.specs.RuleLaws.{rule6_says, says_rule6, rule7_says, says_rule7, rule8_says, says_rule8}
+use Rattle.format.specs.CheckLaws.{Rules}
+use Rattle.format.proofs.CheckLaws.{sound_rules, rules_sound}
+use Rattle.format.proofs.RuleLaws.{rule6_says, says_rule6, rule7_says, says_rule7, rule8_says, says_rule8}
 use Rattle.lists.specs.Counts.{OneOf, one_of, all_once, once_all_apart}
 use Rattle.soundness.specs.Filed.{entries_of, chains_of, Filed, chain_below, chains_below, rules_filed, directory_is, filed_rules}
 

@@ -12,8 +12,7 @@ use mathlib.Core.List.{List, [], ◌∷◌, map, ◌++◌, append_assoc, map-app
 use Rattle.std.proofs.Math.ListN.{length, take}
 use Rattle.std.proofs.Math.Seq.{length-take-le}
 use Rattle.lists.specs.Lists.{is_some, times, last_or}
-use Rattle.lists.specs.ListLaws.{zero_or, All, done, ◌also◌, head_of_all, tail_of, all_join, at_all, times_none}
-use Rattle.lists.specs.ListLaws.{times_join, times_here, times_past, all_take, times_take, last_apart}
+use Rattle.lists.specs.ListLaws.{zero_or, All, done, ◌also◌, head_of_all, tail_of, all_join, at_all, times_none, times_join, times_here, times_past, all_take, times_take, last_apart}
 use Rattle.lists.specs.Counts.{last_of, one_at_most}
 use Rattle.format.specs.Refusals.{ok}
 use Rattle.format.specs.Geometry.{Geometry, sectors, Disc, Write}
@@ -21,11 +20,12 @@ use Rattle.format.specs.GeometryLaws.{Full}
 use Rattle.format.specs.Layout.{name_offset, attribute_offset, attribute_of, protected_as, Slot, directory, free, open_slot, find, file_chain}
 use Rattle.format.specs.Check.{broken, sound}
 use Rattle.format.specs.Modules.{Module, sectors_for, bodies}
-use Rattle.format.specs.ModuleLaws.{bodies_many}
+use Rattle.format.proofs.ModuleLaws.{bodies_many}
 use Rattle.format.specs.Effects.{slot_write, chained, system_write, entry_bytes, entry_writes, growth, needed, save_writes, delete_writes}
 use Rattle.format.specs.Calls.{save_on, delete_on, rename_on, protect_on}
-use Rattle.format.specs.CallLaws.{save_ok, delete_ok, rename_ok, protect_ok}
-use Rattle.format.specs.WholeWrites.{Whole, slot_whole, saved_whole, deleted_whole}
+use Rattle.format.proofs.CallLaws.{save_ok, delete_ok, rename_ok, protect_ok}
+use Rattle.format.specs.WholeWrites.{Whole}
+use Rattle.format.proofs.WholeWrites.{slot_whole, saved_whole, deleted_whole}
 use Rattle.format.specs.WriteLaws.{WholeOn}
 use Rattle.soundness.specs.WriteFacts.{Removable, removable, Savable, savable}
 

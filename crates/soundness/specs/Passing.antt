@@ -9,7 +9,7 @@ use Rattle.std.proofs.Math.Nat.{mul_comm}
 use Rattle.lists.specs.Lists.{range, joined, times, Once}
 use Rattle.lists.specs.ListLaws.{All, done, ◌also◌, times_none, times_join, times_here, times_past, once_inside}
 use Rattle.format.specs.Geometry.{Geometry, sectors, sector_number, track_of, sector_of}
-use Rattle.format.specs.GeometryLaws.{number_back, track_back, sector_back, sector_range, track_range}
+use Rattle.format.proofs.GeometryLaws.{number_back, track_back, sector_back, sector_range, track_range}
 use Rattle.format.specs.Effects.{passing}
 
 module _ (G : Geometry) (some_sector : 0 < G.per_track) (once : Once (suc G.per_track) G.order) where

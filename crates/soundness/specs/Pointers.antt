@@ -7,7 +7,8 @@ use Rattle.lists.specs.Lists.{byte}
 use Rattle.lists.specs.ListLaws.{All, done, ◌also◌}
 use Rattle.lists.specs.Stores.{get_d_sets_in}
 use Rattle.format.specs.Geometry.{Geometry, sectors, Next, stop, go, pointed, Disc}
-use Rattle.format.specs.GeometryLaws.{pointed_stop, pointed_back, OnDisc}
+use Rattle.format.specs.GeometryLaws.{OnDisc}
+use Rattle.format.proofs.GeometryLaws.{pointed_stop, pointed_back}
 use Rattle.format.specs.Layout.{link_offset, link_at, pair_at, link_bytes, pair_bytes, link_of}
 use Rattle.format.specs.ChainLaws.{Chain, end, on}
 use Rattle.format.specs.Effects.{with_link, head_of}

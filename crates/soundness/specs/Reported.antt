@@ -5,10 +5,12 @@ use Rattle.std.proofs.Common.{ne_eqb}
 use Rattle.lists.specs.Lists.{sum}
 use Rattle.format.specs.Geometry.{Geometry, sectors, Disc}
 use Rattle.format.specs.Layout.{length_of, used_count, free_count, free_pointer, free, file_sectors}
-use Rattle.format.specs.ChainLaws.{Chain, chain_met}
+use Rattle.format.specs.ChainLaws.{Chain}
+use Rattle.format.proofs.ChainLaws.{chain_met}
 use Rattle.format.specs.Check.{rule6, rule7, broken}
-use Rattle.format.specs.CheckLaws.{broken_7}
-use Rattle.format.specs.RuleLaws.{Apart, says_rule6}
+use Rattle.format.proofs.CheckLaws.{broken_7}
+use Rattle.format.specs.RuleLaws.{Apart}
+use Rattle.format.proofs.RuleLaws.{says_rule6}
 use Rattle.soundness.specs.Filed.{entries_of, chains_of, Filed, directory_is, entries_are, filed_rules}
 
 module _ {G : Geometry} {d : Disc} {dir frees : List ℕ} (f : Filed G d dir) (c : Chain G d (free_pointer G d) frees) (few : length frees ≤ sectors G)

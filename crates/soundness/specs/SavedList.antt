@@ -12,9 +12,10 @@ use Rattle.lists.specs.ListLaws.{All, head_of_all, tail_of, all_map, all_left, a
 use Rattle.format.specs.Geometry.{Geometry, sectors, Next, Disc, sector, written}
 use Rattle.format.specs.GeometryLaws.{Full}
 use Rattle.format.specs.Layout.{Slot, link_of, met, directory, free, open_slot}
-use Rattle.format.specs.ChainLaws.{Chain, end, on, chain_met}
+use Rattle.format.specs.ChainLaws.{Chain, end, on}
+use Rattle.format.proofs.ChainLaws.{chain_met}
 use Rattle.format.specs.Modules.{Module, sectors_for, bodies}
-use Rattle.format.specs.ModuleLaws.{bodies_many}
+use Rattle.format.proofs.ModuleLaws.{bodies_many}
 use Rattle.format.specs.Effects.{head_of, chained, growth, needed, save_writes}
 use Rattle.soundness.specs.WriteFacts.{Savable}
 use Rattle.soundness.specs.Pointers.{Bounded, head_pointable, made_link}

@@ -4,8 +4,7 @@ use Rattle.std.specs.Prelude.{◌≡◌, refl, ◌≢◌, ℕ, zero, suc, ◌+�
 use Rattle.std.proofs.Common.{sym, ap, ◌∙◌, subst, arith, length-append}
 use Rattle.std.proofs.Math.Bool.{not}
 use Rattle.lists.specs.Lists.{filter, range, times}
-use Rattle.lists.specs.ListLaws.{All, done, ◌also◌, all_join, map_same, filter_yes, filter_no}
-use Rattle.lists.specs.ListLaws.{all_filter, filter_all, at_all, range_all, all_mapped, same_refl}
+use Rattle.lists.specs.ListLaws.{All, done, ◌also◌, all_join, map_same, filter_yes, filter_no, all_filter, filter_all, at_all, range_all, all_mapped, same_refl}
 use Rattle.lists.specs.Counts.{times_range, filter_parts}
 use Rattle.lists.specs.OneChanged.{OneChanged, change_map, change_joined, change_kept, change_lost, change_gained}
 use Rattle.format.specs.Geometry.{Disc, sector}

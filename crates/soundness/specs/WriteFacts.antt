@@ -5,9 +5,8 @@ use Rattle.std.proofs.Common.{arith}
 use Rattle.std.proofs.Math.Option.{some}
 use Rattle.lists.specs.Lists.{times, last_or, byte}
 use Rattle.format.specs.Geometry.{Geometry, sectors, go, Disc, sector}
-use Rattle.format.specs.GeometryLaws.{pointed_on}
-use Rattle.format.specs.Layout.{in_use_offset, slots_each, free_count, used_count, Slot, length_of, free_pointer}
-use Rattle.format.specs.Layout.{directory, free, open_slot, find, first_of, last_of, file_chain}
+use Rattle.format.proofs.GeometryLaws.{pointed_on}
+use Rattle.format.specs.Layout.{in_use_offset, slots_each, free_count, used_count, Slot, length_of, free_pointer, directory, free, open_slot, find, first_of, last_of, file_chain}
 use Rattle.format.specs.Check.{broken}
 use Rattle.soundness.specs.Slots.{sector_some_used, sector_some_free}
 use Rattle.soundness.specs.Laid.{laid_one, sound_laid}

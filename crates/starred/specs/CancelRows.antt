@@ -8,15 +8,12 @@ use Rattle.lists.specs.Lists.{byte, elem, cons_if, range, joined}
 use Rattle.format.specs.Refusals.{◌>>=◌, ◌>>◌, refuse◌if◌, ◌or_refuse◌, number, value_or}
 use Rattle.format.specs.Geometry.{ten, Geometry, tracked, geometry, go, pointed, place_of, sector_at, chunks, reordered, Disc, sector, cut, flat, Write, written}
 use Rattle.format.specs.Names.{letter, letters, before_dot, after_dot, with_extension, stored, disc_name, spaced, legal_stored}
-use Rattle.format.specs.Layout.{name_offset, used_count, Slot, empty_slot, free_slot, in_use, slot_at, slots_at, slots_of, link_bytes, free_pointer}
-use Rattle.format.specs.Layout.{met, ends, directory, free, slots, entries, open_slot, find, first_of, file_chain, file_sectors}
+use Rattle.format.specs.Layout.{name_offset, used_count, Slot, empty_slot, free_slot, in_use, slot_at, slots_at, slots_of, link_bytes, free_pointer, met, ends, directory, free, slots, entries, open_slot, find, first_of, file_chain, file_sectors}
 use Rattle.format.specs.Modules.{is_module, storable, sectors_for, first_body, later_body, later_bodies, bodies}
 use Rattle.format.specs.Check.{good_entry, differ, rule1, rule2, counted, rule3, rule4, good_chain, rule5, rule6, rule7, rule8, broken}
-use Rattle.format.specs.Effects.{with_slot, with_link, entry_write, slot_write, head_of, chained, system_write, entry_bytes, growth}
-use Rattle.format.specs.Effects.{needed, entry_writes, save_writes, delete_writes, passing, version, blank_free, blank_system, blank_disc}
+use Rattle.format.specs.Effects.{with_slot, with_link, entry_write, slot_write, head_of, chained, system_write, entry_bytes, growth, needed, entry_writes, save_writes, delete_writes, passing, version, blank_free, blank_system, blank_disc}
 use Rattle.format.specs.Writes.{record_of, write_list}
-use Rattle.format.specs.Calls.{save_before_on, save_on, delete_on, rename_on, asked, listed, blank, answer_by, change_answer_by}
-use Rattle.format.specs.Calls.{check_answer_by, after_check, after_save, after_delete, after_rename, after_blank}
+use Rattle.format.specs.Calls.{save_before_on, save_on, delete_on, rename_on, asked, listed, blank, answer_by, change_answer_by, check_answer_by, after_check, after_save, after_delete, after_rename, after_blank}
 use Rattle.history.specs.Demand3.{is_sound}
 use Rattle.history.specs.Cancels.{file_took, excepted, Cancelled}
 use Rattle.starred.specs.Examples.{text, blank_of, module_of, room_for}

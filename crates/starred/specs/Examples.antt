@@ -7,18 +7,15 @@ use Rattle.std.proofs.Common.{arith}
 use Rattle.std.proofs.Math.Option.{some}
 use Rattle.format.specs.Refusals.{◌>>=◌, ◌>>◌, refuse◌if◌, ◌or_refuse◌, number, value_or}
 use Rattle.format.specs.Geometry.{Geometry, Disc, ten, tracked, geometry, sector_number, pointed, place_of, sector_at, chunks, reordered, cut, flat, sector}
-use Rattle.format.specs.GeometryLaws.{sector_cut}
-use Rattle.format.specs.Formats.{ten_good}
+use Rattle.format.proofs.GeometryLaws.{sector_cut}
+use Rattle.format.proofs.Formats.{ten_good}
 use Rattle.format.specs.Names.{letter, letters, before_dot, after_dot, with_extension, stored, disc_name, spaced, legal_stored}
-use Rattle.format.specs.Layout.{free_count, empty_slot, free_slot, in_use, slot_at, slots_at, slots_of, met, ends}
-use Rattle.format.specs.Layout.{directory, free, slots, entries, open_slot, find, file_chain, file_sectors}
+use Rattle.format.specs.Layout.{free_count, empty_slot, free_slot, in_use, slot_at, slots_at, slots_of, met, ends, directory, free, slots, entries, open_slot, find, file_chain, file_sectors}
 use Rattle.format.specs.Check.{good_entry, differ, rule1, rule2, counted, rule3, rule4, good_chain, rule5, rule6, rule7, rule8, broken}
 use Rattle.format.specs.Modules.{Module, is_module, storable, sectors_for, first_body, later_body, later_bodies, bodies, guessed, plain}
-use Rattle.format.specs.Effects.{with_slot, chained, system_write, entry_bytes, growth, needed, entry_writes, save_writes}
-use Rattle.format.specs.Effects.{delete_writes, reading, listing, passing, version, blank_free, blank_system, blank_disc}
+use Rattle.format.specs.Effects.{with_slot, chained, system_write, entry_bytes, growth, needed, entry_writes, save_writes, delete_writes, reading, listing, passing, version, blank_free, blank_system, blank_disc}
 use Rattle.format.specs.Writes.{record_of, write_list, list_size}
-use Rattle.format.specs.Calls.{list_on, read_on, save_before_on, save_on, delete_on, rename_on, protect_on, asked, listed, blank, answer_by, change_answer_by}
-use Rattle.format.specs.Calls.{list_answer_by, read_answer_by, after_list, after_read, after_save, after_delete, after_rename, after_protect, after_blank}
+use Rattle.format.specs.Calls.{list_on, read_on, save_before_on, save_on, delete_on, rename_on, protect_on, asked, listed, blank, answer_by, change_answer_by, list_answer_by, read_answer_by, after_list, after_read, after_save, after_delete, after_rename, after_protect, after_blank}
 
 -- ---- what the examples are about
 

@@ -5,15 +5,12 @@ use Rattle.lists.specs.Lists.{range}
 use Rattle.format.specs.Refusals.{◌>>=◌, ◌>>◌, refuse◌if◌, ◌or_refuse◌, number, value_or}
 use Rattle.format.specs.Geometry.{ten, geometry, pointed, place_of, sector_at, chunks, reordered, cut, flat, sector}
 use Rattle.format.specs.Names.{letter, letters, before_dot, after_dot, with_extension, stored, disc_name, spaced, legal_stored}
-use Rattle.format.specs.Layout.{empty_slot, free_slot, in_use, slot_at, slots_at, slots_of, met, ends}
-use Rattle.format.specs.Layout.{directory, free, slots, entries, open_slot, find, file_chain, file_sectors}
+use Rattle.format.specs.Layout.{empty_slot, free_slot, in_use, slot_at, slots_at, slots_of, met, ends, directory, free, slots, entries, open_slot, find, file_chain, file_sectors}
 use Rattle.format.specs.Check.{good_entry, differ, rule1, rule2, counted, rule3, rule4, good_chain, rule5, rule6, rule7, rule8, broken}
 use Rattle.format.specs.Modules.{is_module, storable, sectors_for, first_body, later_body, later_bodies, bodies}
-use Rattle.format.specs.Effects.{with_slot, chained, system_write, entry_bytes, growth, needed, entry_writes}
-use Rattle.format.specs.Effects.{save_writes, delete_writes, passing, version, blank_free, blank_system, blank_disc}
+use Rattle.format.specs.Effects.{with_slot, chained, system_write, entry_bytes, growth, needed, entry_writes, save_writes, delete_writes, passing, version, blank_free, blank_system, blank_disc}
 use Rattle.format.specs.Writes.{record_of, write_list, held_after}
-use Rattle.format.specs.Calls.{save_before_on, save_on, delete_on, rename_on, protect_on, asked, listed, blank, answer_by, change_answer_by}
-use Rattle.format.specs.Calls.{after_save, after_delete, after_rename, after_protect, after_blank, ChangeAnswer, replay_on, changed, after_replay}
+use Rattle.format.specs.Calls.{save_before_on, save_on, delete_on, rename_on, protect_on, asked, listed, blank, answer_by, change_answer_by, after_save, after_delete, after_rename, after_protect, after_blank, ChangeAnswer, replay_on, changed, after_replay}
 use Rattle.starred.specs.Examples.{text, module_of, blank_of}
 
 -- `THU.Pcs` saved on a disc of one track, lent so many bytes of 9 for the list

@@ -6,9 +6,9 @@ use Rattle.std.specs.Prelude.{ℕ, ◌+◌, ◌≤◌, true, false, List}
 use Rattle.std.proofs.Math.ListN.{length}
 use borrow.Author.Tests.{not-false}
 use Rattle.format.specs.Refusals.{Try, Refusal, SIZE, NO-SECTOR, refused, ok, ◌>>=◌, ◌>>◌, refuse◌if◌, number, value_or}
-use Rattle.format.specs.RefusalLaws.{if_ok, then_ok}
+use Rattle.format.proofs.RefusalLaws.{if_ok, then_ok}
 use Rattle.format.specs.Geometry.{Format, Geometry, geometry, sector_number, start_of, on_disc, Part, body_part}
-use Rattle.format.specs.GeometryLaws.{geometry_ok, on_disc_is, number_below, place_below}
+use Rattle.format.proofs.GeometryLaws.{geometry_ok, on_disc_is, number_below, place_below}
 use Rattle.format.specs.Arrangements.{Arranged}
 use Rattle.format.specs.Calls.{view, part_by}
 use Rattle.view.specs.Meaning.{view_start}

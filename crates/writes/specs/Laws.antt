@@ -9,13 +9,15 @@ use Rattle.std.proofs.lemmas.List.Edits.{sets}
 use Rattle.lists.specs.Lists.{times}
 use Rattle.format.specs.Geometry as format
 use Rattle.format.specs.Geometry.{Next, go, Disc, sector, track_of, sector_of, Write, written}
-use Rattle.format.specs.GeometryLaws.{sector_cut, sector_full, OnDisc}
+use Rattle.format.specs.GeometryLaws.{OnDisc}
+use Rattle.format.proofs.GeometryLaws.{sector_cut, sector_full}
 use Rattle.lists.specs.ListLaws.{All, done}
 use Rattle.format.specs.Layout.{link_of, met}
-use Rattle.format.specs.ChainLaws.{met_none, met_go, met_stop, met_off, met_below}
+use Rattle.format.proofs.ChainLaws.{met_none, met_go, met_stop, met_off, met_below}
 use Rattle.format.specs.Refusals.{ok}
 use Rattle.format.specs.Writes.{record_of, write_list, list_size}
-use Rattle.format.specs.WriteLaws.{WholeOn, list_long}
+use Rattle.format.specs.WriteLaws.{WholeOn}
+use Rattle.format.proofs.WriteLaws.{list_long}
 use Rattle.soundness.specs.CopiedOut.{standing, records_at, copied, copied_join, records_long, copied_out}
 use Rattle.disc.specs.contracts.Step.{the_type}
 use Rattle.geometry.specs.Meaning.{form, geo, sectors_of, Image}

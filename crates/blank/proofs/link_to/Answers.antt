@@ -1,7 +1,7 @@
 -- `blank::link_to` meets its contract.
 use Rattle.std.proofs.Common.{arith, ℕ, ◌%◌, ap, ◌∙◌, [], ◌∷◌, set}
 use Rattle.format.specs.Geometry.{Disc, sector, sector_number}
-use Rattle.format.specs.GeometryLaws.{sector_full}
+use Rattle.format.proofs.GeometryLaws.{sector_full}
 use Rattle.format.specs.Layout.{link_offset}
 use Rattle.geometry.specs.Meaning.{geo, sectors_of}
 use Rattle.disc.specs.Meaning.{stored_at}

@@ -3,7 +3,7 @@ use Rattle.std.proofs.Common.{rules, arith, ℕ, ◌-◌, ◌<◌, ◌≡◌, ap
 use lib.Seq.{sets}
 use Rattle.lists.specs.Lists.{word}
 use Rattle.format.specs.Geometry.{Disc, sector}
-use Rattle.format.specs.GeometryLaws.{length_cut, sector_again}
+use Rattle.format.proofs.GeometryLaws.{length_cut, sector_again}
 use Rattle.format.specs.Layout.{free_offset, free_count_offset, disc_name_offset, version_offset}
 use Rattle.format.specs.Effects.{version}
 use Rattle.geometry.specs.Meaning.{geo, sectors_of, form}

@@ -1,6 +1,6 @@
 -- `disc::address_at` meets its contract.
 use Rattle.std.proofs.Common.{arith}
-use Rattle.format.specs.GeometryLaws.{track_range, sector_range}
+use Rattle.format.proofs.GeometryLaws.{track_range, sector_range}
 use Rattle.geometry.specs.Meaning.{geo}
 use Rattle.disc.proofs.address_at.Goals as goal
 

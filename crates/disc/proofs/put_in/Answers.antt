@@ -1,7 +1,7 @@
 -- `disc::put_in` meets its contract: bytes stored in the image lie in the sector that starts there.
 use Rattle.std.proofs.Common.{arith, ℕ, ◌+◌, ap, ◌∙◌}
 use lib.Seq.{sets}
-use Rattle.format.specs.GeometryLaws.{sets_cut}
+use Rattle.format.proofs.GeometryLaws.{sets_cut}
 use Rattle.geometry.specs.Meaning.{form, geo, sectors_of}
 use Rattle.geometry.specs.Laws.{each_once}
 use Rattle.disc.proofs.put_in.Goals as goal

@@ -1,7 +1,7 @@
 -- `disc::put_sector` meets its contract: 256 bytes stored from offset 0 on are the whole sector.
 use Rattle.std.proofs.Common.{◌≡◌, arith, length}
 use Rattle.format.specs.Geometry.{sector}
-use Rattle.format.specs.GeometryLaws.{sector_full}
+use Rattle.format.proofs.GeometryLaws.{sector_full}
 use Rattle.geometry.specs.Meaning.{sectors_of}
 use Rattle.geometry.specs.Laws.{image_full}
 use Rattle.lists.specs.Stores.{sets_whole}

@@ -1,7 +1,7 @@
 -- `disc::sector_at` meets its contract. Nothing wraps: a sector ends within the image.
 use Rattle.std.proofs.Common.{sym, subst, ℕ, ◌+◌, ◌*◌, ◌≤◌, arith}
 use Rattle.format.specs.Geometry.{sector_number}
-use Rattle.format.specs.GeometryLaws.{on_disc_is}
+use Rattle.format.proofs.GeometryLaws.{on_disc_is}
 use Rattle.geometry.specs.Meaning.{geo, place_in, Starts}
 use Rattle.geometry.specs.Laws.{number_on, starts_at}
 use Rattle.disc.specs.Laws.{lies}

@@ -1,7 +1,7 @@
 -- `disc::step_at` meets its contract.
 use Rattle.std.proofs.Common.{sym, ap, ◌∙◌, ne_eqb}
 use Rattle.format.specs.Geometry.{go, pointed}
-use Rattle.format.specs.GeometryLaws.{pointed_stop}
+use Rattle.format.proofs.GeometryLaws.{pointed_stop}
 use Rattle.disc.proofs.step_at.Goals as goal
 
 pub returns-then-sector-eq0 : goal.returns-then-sector-eq0

@@ -3,7 +3,7 @@ use Rattle.std.proofs.Common.{arith, ◌≡◌, sym, ◌∙◌, true}
 use Rattle.format.specs.Geometry.{Disc}
 use Rattle.format.specs.Layout.{directory_pointer}
 use Rattle.format.specs.Check.{rule1}
-use Rattle.format.specs.CheckLaws.{broken_1, broken_2, broken_3, broken_4}
+use Rattle.format.proofs.CheckLaws.{broken_1, broken_2, broken_3, broken_4}
 use Rattle.geometry.specs.Meaning.{geo, sectors_of, Valid}
 use Rattle.disc.specs.Meaning.{led}
 use Rattle.fsck.specs.Rules.{checked_broken, checked_sound, rule1_is, rule2_broken, rule2_ended}

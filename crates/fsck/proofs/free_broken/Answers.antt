@@ -2,7 +2,7 @@
 use Rattle.std.proofs.Common.{◌≡◌, sym, ◌∙◌, true, eq-eqb, ne_eqb}
 use Rattle.format.specs.Geometry.{Geometry, Disc}
 use Rattle.format.specs.Check.{rule6, rule7, rule8}
-use Rattle.format.specs.CheckLaws.{broken_6, broken_7, broken_8, rules_sound}
+use Rattle.format.proofs.CheckLaws.{broken_6, broken_7, broken_8, rules_sound}
 use Rattle.geometry.specs.Meaning.{geo, sectors_of}
 use Rattle.fsck.specs.Rules.{rule6_is, rule6_marks, rule7_is, rule8_is}
 use Rattle.fsck.proofs.free_broken.Goals as goal

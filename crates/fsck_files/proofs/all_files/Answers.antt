@@ -3,7 +3,7 @@
 use Rattle.std.proofs.Common.{arith, ◌≤◌, ap, length}
 use Rattle.format.specs.Geometry.{sectors}
 use Rattle.format.specs.Layout.{directory_pointer, directory}
-use Rattle.format.specs.ChainLaws.{met_few}
+use Rattle.format.proofs.ChainLaws.{met_few}
 use Rattle.geometry.specs.Meaning.{geo, sectors_of}
 use Rattle.directory.specs.Meaning.{Met}
 use Rattle.directory.specs.Laws.{stepped_to, stepped_end, left_all, left_met, left_over}

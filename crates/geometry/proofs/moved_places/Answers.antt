@@ -1,7 +1,7 @@
 -- `geometry::moved_places` meets its contract. The loop's invariant: with the places that are still to be added, the sum is that of all.
 use Rattle.std.proofs.Common.{arith}
 use Rattle.format.specs.Geometry.{stated, ten_moved, ten}
-use Rattle.format.specs.Formats.{ten_good, order_range}
+use Rattle.format.proofs.Formats.{ten_good, order_range}
 use Rattle.geometry.specs.Laws.{places_step, places_done}
 use Rattle.geometry.proofs.moved_places.Goals as goal
 

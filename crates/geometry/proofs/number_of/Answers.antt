@@ -1,6 +1,6 @@
 -- `geometry::number_of` meets its contract. Nothing wraps: the number is below that of all sectors.
 use Rattle.std.proofs.Common.{arith}
-use Rattle.format.specs.GeometryLaws.{on_disc_is}
+use Rattle.format.proofs.GeometryLaws.{on_disc_is}
 use Rattle.geometry.specs.Laws.{number_on}
 use Rattle.geometry.specs.Meaning.{geo}
 use Rattle.geometry.proofs.number_of.Goals as goal

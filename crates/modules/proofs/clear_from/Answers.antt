@@ -3,7 +3,7 @@ use Rattle.std.proofs.Common.{arith, ℕ, ◌+◌, ◌-◌, ◌≡◌, ap, ap₂
 use lib.ListN.{length-replicate}
 use lib.Seq.{sets}
 use Rattle.geometry.specs.Laws.{each_once}
-use Rattle.format.specs.GeometryLaws.{sets_cut}
+use Rattle.format.proofs.GeometryLaws.{sets_cut}
 use Rattle.geometry.specs.Meaning.{geo, sectors_of, form}
 use Rattle.modules.proofs.clear_from.Goals as goal
 

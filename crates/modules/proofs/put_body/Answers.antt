@@ -1,7 +1,7 @@
 -- `modules::put_body` meets its contract: the four stores are the whole sector.
 use Rattle.std.proofs.Common.{refl, arith}
 use Rattle.geometry.specs.Laws.{image_full}
-use Rattle.format.specs.GeometryLaws.{sector_full}
+use Rattle.format.proofs.GeometryLaws.{sector_full}
 use Rattle.format.specs.Layout.{link_bytes}
 use Rattle.geometry.specs.Meaning.{geo, sectors_of}
 use Rattle.disc.specs.Meaning.{meaning}

@@ -1,6 +1,6 @@
 -- `modules::put_nth` meets its contract.
 use Rattle.std.proofs.Common.{◌+◌, ◌*◌, ◌-◌, ◌≤◌, arith, length}
-use Rattle.format.specs.ModuleLaws.{sectors_fit}
+use Rattle.format.proofs.ModuleLaws.{sectors_fit}
 use Rattle.modules.specs.Meaning.{module_of}
 use Rattle.modules.specs.Laws.{body_first, body_later}
 use Rattle.modules.proofs.put_nth.Goals as goal

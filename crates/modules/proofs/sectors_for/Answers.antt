@@ -1,6 +1,6 @@
 -- `modules::sectors_for` meets its contract.
 use Rattle.std.proofs.Common.{sym}
-use Rattle.format.specs.ModuleLaws.{sectors_one, sectors_more}
+use Rattle.format.proofs.ModuleLaws.{sectors_one, sectors_more}
 use Rattle.modules.proofs.sectors_for.Goals as goal
 
 pub returns-then-size-le-FIRST_ROOM : goal.returns-then-size-le-FIRST_ROOM

@@ -1,6 +1,6 @@
 -- `passing::stop_at` meets its contract.
 use Rattle.std.proofs.Common.{subst, ℕ, ◌+◌, ◌≤◌, arith}
-use Rattle.format.specs.Formats.{order_range}
+use Rattle.format.proofs.Formats.{order_range}
 use Rattle.geometry.specs.Laws.{good}
 use Rattle.passing.specs.Meaning.{Stop}
 use Rattle.passing.proofs.stop_at.Goals as goal

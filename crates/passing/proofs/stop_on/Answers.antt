@@ -1,7 +1,7 @@
 -- `passing::stop_on` meets its contract. Nothing wraps: a sector ends within the image.
 use Rattle.std.proofs.Common.{◌≡◌, true, ◌+◌, ◌*◌, ◌/◌, ◌%◌, arith}
 use Rattle.format.specs.Geometry.{sector_number, on_disc}
-use Rattle.format.specs.GeometryLaws.{is_on_disc}
+use Rattle.format.proofs.GeometryLaws.{is_on_disc}
 use Rattle.geometry.specs.Meaning.{geo, Starts}
 use Rattle.geometry.specs.Laws.{number_on, starts_at}
 use Rattle.disc.specs.Laws.{lies}

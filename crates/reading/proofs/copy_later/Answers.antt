@@ -1,6 +1,6 @@
 -- `reading::copy_later` meets its contract.
 use Rattle.std.proofs.Common.{arith}
-use Rattle.format.specs.GeometryLaws.{sector_full}
+use Rattle.format.proofs.GeometryLaws.{sector_full}
 use Rattle.geometry.specs.Laws.{image_full}
 use Rattle.reading.specs.CopyLaws.{copied_whole}
 use Rattle.reading.proofs.copy_later.Goals as goal

@@ -3,7 +3,7 @@ use Rattle.std.proofs.Common.{arith, ℕ, ◌+◌, ◌-◌, ◌≡◌, sym, ap, 
 use lib.Seq.{sets, slice}
 use Rattle.lists.specs.ListLaws.{drop_take}
 use Rattle.format.specs.Geometry.{start_of, sector}
-use Rattle.format.specs.GeometryLaws.{sector_full}
+use Rattle.format.proofs.GeometryLaws.{sector_full}
 use Rattle.geometry.specs.Laws.{image_full}
 use Rattle.geometry.specs.Meaning.{geo, sectors_of, form}
 use Rattle.reading.specs.SectorLaws.{sector_from}

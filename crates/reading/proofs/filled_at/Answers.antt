@@ -2,7 +2,7 @@
 use Rattle.std.proofs.Common.{◌≡◌, sym, ◌∙◌, arith, length}
 use Rattle.geometry.specs.Laws.{image_full}
 use Rattle.format.specs.Geometry.{sector}
-use Rattle.format.specs.GeometryLaws.{sector_full}
+use Rattle.format.proofs.GeometryLaws.{sector_full}
 use Rattle.geometry.specs.Meaning.{sectors_of}
 use Rattle.reading.specs.SectorLaws.{filled_yes, filled_no}
 use Rattle.reading.proofs.filled_at.Goals as goal

@@ -1,6 +1,6 @@
 -- `repairing::repair_on` meets its contract.
 use Rattle.format.specs.Refusals.{UNSOUND}
-use Rattle.format.specs.CallLaws.{repair_refused, repair_done}
+use Rattle.format.proofs.CallLaws.{repair_refused, repair_done}
 use Rattle.geometry.specs.Meaning.{geo, sectors_of}
 use Rattle.geometry.specs.Laws.{image_kept}
 use Rattle.disc.specs.Laws.{inside}

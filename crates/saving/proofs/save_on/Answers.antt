@@ -2,7 +2,8 @@
 use Rattle.std.proofs.Common.{arith, ◌≡◌, true}
 use Rattle.format.specs.Check.{sound}
 use Rattle.format.specs.Modules.{Module}
-use Rattle.format.specs.ModuleLaws.{IsModule, module_true, storable_module}
+use Rattle.format.specs.ModuleLaws.{IsModule}
+use Rattle.format.proofs.ModuleLaws.{module_true, storable_module}
 use Rattle.geometry.specs.Meaning.{geo, sectors_of}
 use Rattle.answers.specs.Listed.{refuses_lists, lists_as}
 use Rattle.saving.specs.Meaning.{handed}

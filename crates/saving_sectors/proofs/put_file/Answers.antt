@@ -1,6 +1,6 @@
 -- `saving_sectors::put_file` meets its contract.
 use Rattle.std.proofs.Common.{arith, sym, ◌∙◌, length}
-use Rattle.format.specs.ModuleLaws.{sectors_fit}
+use Rattle.format.proofs.ModuleLaws.{sectors_fit}
 use Rattle.format.specs.Effects.{entry_bytes}
 use Rattle.disc.specs.Laws.{inside}
 use Rattle.saving_sectors.specs.Taking.{linked_head}

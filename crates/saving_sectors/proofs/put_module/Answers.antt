@@ -1,7 +1,7 @@
 -- `saving_sectors::put_module` meets its contract. The loop's invariant: j of the sectors are written, as `Taking` says.
 use Rattle.std.proofs.Common.{arith, ◌+◌, ◌≡◌, refl, sym, ap, ◌∙◌, ltb, length}
 use Rattle.format.specs.Modules.{Module}
-use Rattle.format.specs.ModuleLaws.{sectors_fit, bodies_many}
+use Rattle.format.proofs.ModuleLaws.{sectors_fit, bodies_many}
 use Rattle.geometry.specs.Meaning.{geo, sectors_of}
 use Rattle.disc.specs.Meaning.{meaning}
 use Rattle.geometry.specs.Laws.{image_kept}

@@ -2,7 +2,7 @@
 use Rattle.std.proofs.Common.{arith, ℕ, ap₂, ◌∙◌, List, [], ◌∷◌}
 use lib.Seq.{sets}
 use Rattle.format.specs.Geometry.{Disc, sector}
-use Rattle.format.specs.GeometryLaws.{sector_again}
+use Rattle.format.proofs.GeometryLaws.{sector_again}
 use Rattle.format.specs.Layout.{in_use_offset, slot_start}
 use Rattle.format.specs.Effects.{with_slot}
 use Rattle.geometry.specs.Meaning.{sectors_of}

@@ -3,7 +3,7 @@ use Rattle.std.proofs.Common.{arith, ℕ, ap, ap₂, ◌∙◌, List, [], ◌∷
 use lib.Seq.{sets}
 use Rattle.lists.specs.Lists.{word}
 use Rattle.format.specs.Geometry.{Disc, sector}
-use Rattle.format.specs.GeometryLaws.{length_cut, sector_again}
+use Rattle.format.proofs.GeometryLaws.{length_cut, sector_again}
 use Rattle.format.specs.Layout.{free_offset, free_count_offset}
 use Rattle.format.specs.Effects.{system_write}
 use Rattle.geometry.specs.Meaning.{geo, sectors_of, form}

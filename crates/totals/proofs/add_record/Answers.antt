@@ -1,6 +1,6 @@
 -- `totals::add_record` meets its contract.
 use Rattle.std.proofs.Common.{arith}
-use Rattle.totals.specs.Laws.{date_adds, worker_in, credit_adds}
+use Rattle.totals.proofs.Laws.{date_adds, worker_in, credit_adds}
 use Rattle.totals.proofs.add_record.Goals as goal
 
 pub returns-then-sheet-k-eq2 : goal.returns-then-sheet-k-eq2

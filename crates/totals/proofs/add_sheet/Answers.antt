@@ -1,6 +1,6 @@
 -- `totals::add_sheet` meets its contract.
 use Rattle.std.proofs.Common.{List, ℕ, sym, ap, subst, ◌∙◌}
-use Rattle.totals.specs.Laws.{sheet_answer, other_table, lent_over, sheet_refused, sheet_added}
+use Rattle.totals.proofs.Laws.{sheet_answer, other_table, lent_over, sheet_refused, sheet_added}
 use Rattle.totals.specs.Meaning.{Running, Tallies}
 use Rattle.totals.proofs.add_sheet.Goals as goal
 use Rattle.totals.proofs.add_sheet.Goals.{After-copy, After-tally-number}

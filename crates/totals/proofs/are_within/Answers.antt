@@ -1,6 +1,6 @@
 -- `totals::are_within` meets its contract.
 use Rattle.std.proofs.Common.{take_all, true, rules, arith, refl, sym, ap, ◌∙◌}
-use Rattle.totals.specs.Laws.{over_at, within_one}
+use Rattle.totals.proofs.Laws.{over_at, within_one}
 use Rattle.totals.specs.Totals.{within}
 use Rattle.totals.proofs.are_within.Goals as goal
 

@@ -1,6 +1,6 @@
 -- `totals::copy` meets its contract.
 use Rattle.std.proofs.Common.{take_all, rules, arith, refl, sym, ◌∙◌, length-set}
-use Rattle.totals.specs.Laws.{copied_one}
+use Rattle.totals.proofs.Laws.{copied_one}
 use Rattle.totals.proofs.copy.Goals as goal
 
 pub loop-i-init : goal.loop-i-init

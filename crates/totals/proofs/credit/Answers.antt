@@ -1,6 +1,6 @@
 -- `totals::credit` meets its contract.
 use Rattle.std.proofs.Common.{le-leb, arith, ◌-◌, refl, sym}
-use Rattle.totals.specs.Laws.{low_at}
+use Rattle.totals.proofs.Laws.{low_at}
 use Rattle.totals.specs.Totals.{add_credit}
 use borrow.Author.Tests.{lt-leb}
 use mathlib.Core.Bool.{false≢true}

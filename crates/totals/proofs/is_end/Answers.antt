@@ -1,5 +1,5 @@
 -- `totals::is_end` meets its contract.
-use Rattle.totals.specs.Laws.{cut_at, end_at}
+use Rattle.totals.proofs.Laws.{cut_at, end_at}
 use Rattle.totals.proofs.is_end.Goals as goal
 
 pub returns-then-sheet-k-ne1 : goal.returns-then-sheet-k-ne1

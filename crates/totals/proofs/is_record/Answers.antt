@@ -1,6 +1,6 @@
 -- `totals::is_record` meets its contract.
 use Rattle.std.proofs.Common.{leb, arith, ℕ, ap, ◌∙◌}
-use Rattle.totals.specs.Laws.{date_record, other_record, low_record, pieces_record}
+use Rattle.totals.proofs.Laws.{date_record, other_record, low_record, pieces_record}
 use Rattle.totals.specs.Totals.{workers}
 use Rattle.totals.proofs.is_record.Goals as goal
 

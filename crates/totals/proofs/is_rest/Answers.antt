@@ -1,7 +1,7 @@
 -- `totals::is_rest` meets its contract.
 use Rattle.std.proofs.Common.{rules, arith, ℕ, refl, sym, ap, ◌∙◌, List}
 use Rattle.lists.specs.Lists.{is_some}
-use Rattle.totals.specs.Laws.{rest_on, record_bad, end_some}
+use Rattle.totals.proofs.Laws.{rest_on, record_bad, end_some}
 use Rattle.totals.proofs.is_rest.Goals as goal
 use Rattle.totals.proofs.is_rest.Goals.{At-loop-at}
 

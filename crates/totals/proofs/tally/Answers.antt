@@ -1,6 +1,6 @@
 -- `totals::tally` meets its contract.
 use Rattle.std.proofs.Common.{Bool, cond, [], arith, ◌+◌, ◌≡◌, refl, sym, ap, ◌∙◌, drop}
-use Rattle.totals.specs.Laws.{record_bad, tally_on, tally_over, tally_bad, tally_end, refused_tally, done_tally}
+use Rattle.totals.proofs.Laws.{record_bad, tally_on, tally_over, tally_bad, tally_end, refused_tally, done_tally}
 use Rattle.totals.specs.Meaning.{Tallies, too_many}
 use Rattle.totals.specs.Totals.{credits_of}
 use Rattle.format.specs.Refusals.{BAD-SHEET}

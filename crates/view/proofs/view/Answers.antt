@@ -2,7 +2,7 @@
 use Rattle.std.proofs.Common.{◌≡◌, refl, sym, ap, ◌∙◌, ℕ, ◌+◌, ◌-◌, ◌≤◌, arith, length, take, drop}
 use Rattle.format.specs.Refusals.{Try, Refusal}
 use Rattle.format.specs.Geometry.{Part}
-use Rattle.format.specs.Formats.{stated_arranged}
+use Rattle.format.proofs.Formats.{stated_arranged}
 use Rattle.format.specs.Calls.{view, part_by, view_part}
 use Rattle.geometry.specs.Meaning.{kind_of}
 use Rattle.view.specs.Laws.{view_part_lies, refused_part}

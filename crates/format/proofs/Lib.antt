@@ -1,0 +1,16 @@
+pub mod Arrangements
+pub mod CallLaws
+pub mod ChainLaws
+pub mod CheckLaws
+pub mod Formats
+pub mod GeometryLaws
+pub mod ListedLaws
+pub mod ModuleLaws
+pub mod MovingLaws
+pub mod NameCounts
+pub mod NameLaws
+pub mod RefusalLaws
+pub mod RuleLaws
+pub mod SlotLaws
+pub mod WholeWrites
+pub mod WriteLaws
