@@ -128,8 +128,8 @@ module _ (s : List ℕ) (d : ℕ) (first : d ≡ length (before_dot s)) where
   pub stored_plain : length s ≤ d → stored s ≡ cond (letters 1 6 s) (some (padded 9 space s)) none
   unfolding stored
   stored_plain h =
-      let None-first = rw first at h in
-      ap₂ with_extension (before_dot_take s ∙ take_all _ s None-first) (after_dot_none s None-first) ∙ without_extension s
+      let none-first = rw first at h in
+      ap₂ with_extension (before_dot_take s ∙ take_all _ s none-first) (after_dot_none s none-first) ∙ without_extension s
 
 name_long : (n : List ℕ) (o : Option (List ℕ)) → 6 < length n → with_extension n o ≡ none
 unfolding with_extension

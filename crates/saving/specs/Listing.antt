@@ -119,7 +119,7 @@ module _ {g : Geometry} {image : List ℕ} (nine : List ℕ) (m : Module) (y : R
           → Copied g after (front_of g after first count ++ new ∷ last ∷ []) lent buffer r
           → Lists g image after lent buffer r (ok (save_writes (geo g) (sectors_of g image) nine m))
       unfolding file
-      grown_listed o New-is last_is room c =
+      grown_listed o new-is last_is room c =
           listed_done lent y.image_of _ whole once (omega (arith, many_grown o)) is
-          (ap₂ (λ (ns es : List ℕ). 0 ∷ ns ++ es) chain_is (λ i. New-is i ∷ last_is i ∷ [])
+          (ap₂ (λ (ns es : List ℕ). 0 ∷ ns ++ es) chain_is (λ i. new-is i ∷ last_is i ∷ [])
           ∙ sym (targets_grown (geo g) (sectors_of g image) nine m y.enough o)) c

@@ -155,18 +155,18 @@ module _ (G : Geometry) (d : Disc) (nine : List ℕ) (m : Module) (S : Savable G
     pub next_grown : next_free G d m ≡ go (get_or (free G d) k 0)
     next_grown = free_next G d k (omega (arith, one_more)) (sectors_fit (length m.bytes)).some_sector (omega (arith, one_more))
 
-    module _ (new : ℕ) (New-is : new ≡ get_or (free G d) k 0) where
+    module _ (new : ℕ) (new-is : new ≡ get_or (free G d) k 0) where
       new_left : 0 < times new (drop k (free G d))
       new_left =
           let head : drop k (free G d) ≡ get_or (free G d) k 0 ∷ drop (suc k) (free G d) = drop-cons (free G d) k 0 (omega (arith, one_more)) in
-          omega (arith, ap (times new) head, times_here new (get_or (free G d) k 0) (drop (suc k) (free G d)) New-is)
+          omega (arith, ap (times new) head, times_here new (get_or (free G d) k 0) (drop (suc k) (free G d)) new-is)
 
       new_free : 0 < times new (free G d)
       new_free = omega (arith, new_left, times_split new k (free G d))
 
       -- it is the last one that the save takes
       last_one : new ≡ last_or 0 (take (k + 1) (free G d))
-      last_one = New-is ∙ sym (ap (λ (i : ℕ). last_or 0 (take i (free G d))) (add-one k) ∙ last_taken 0 (free G d) k (omega (arith, one_more)))
+      last_one = new-is ∙ sym (ap (λ (i : ℕ). last_or 0 (take i (free G d))) (add-one k) ∙ last_taken 0 (free G d) k (omega (arith, one_more)))
 
       pub new_last : new ≡ last_or 0 (all_taken G d m)
       new_last = rw (growth_none G d full) last_one

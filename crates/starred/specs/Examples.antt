@@ -47,7 +47,7 @@ answers name =
     ∷ (after_protect ten (blank_of 1) name 1 []).number
     ∷ []
 
--- the disc of 40 tracks with `THU.Pcs` saved
+-- the disc of 40 tracks with `THU.PCS` saved
 after_thursday : List ℕ
 after_thursday = (after_save ten (blank_of 40) (text "THU.PCS") (module_of 0x2000 300) (room_for 4)).image
 

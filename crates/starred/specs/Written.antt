@@ -13,7 +13,7 @@ use Rattle.format.specs.Writes.{record_of, write_list, held_after}
 use Rattle.format.specs.Calls.{save_before_on, save_on, delete_on, rename_on, protect_on, asked, listed, blank, answer_by, change_answer_by, after_save, after_delete, after_rename, after_protect, after_blank, ChangeAnswer, replay_on, changed, after_replay}
 use Rattle.starred.specs.Examples.{text, module_of, blank_of}
 
--- `THU.Pcs` saved on a disc of one track, lent so many bytes of 9 for the list
+-- `THU.PCS` saved on a disc of one track, lent so many bytes of 9 for the list
 thursday : (room : ℕ) → ChangeAnswer
 thursday room = after_save ten (blank_of 1) (text "THU.PCS") (module_of 0x2000 300) (replicate room 9)
 
