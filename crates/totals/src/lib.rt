@@ -120,7 +120,8 @@ fn add_record(sums: &mut [u32], sheet: &[u8], k: usize) -> bool
     requires { Running sums.old × (k + 5 ≤ length sheet.now) × (is_record (byte sheet.now k) (body_at sheet.now k) ≡ true) }
     ensures { Adds sheet.now k sums.old sums.new result }
 {
-    if sheet[k] == 2 {
+    let is_date = sheet[k] == 2;
+    if is_date {
         return true;
     }
     credit(sums, word_at(sheet, k + 1), word_at(sheet, k + 3))
