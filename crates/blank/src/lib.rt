@@ -1,30 +1,25 @@
 // The blank disc.
 #![tactic(auto)]
 
-ghost use Rattle.std.specs.Prelude.{◌≡◌, ◌+◌, ◌*◌, ◌%◌, ◌-◌, ◌≤◌, ◌<◌, ◌∷◌, ◌++◌, length, set, replicate};
+ghost use Rattle.std.specs.Prelude.{◌≡◌, ◌+◌, ◌*◌, ◌%◌, ◌-◌, ◌≤◌, ◌<◌, ◌∷◌, ◌++◌, set, replicate};
 ghost use Rattle.format.specs.Geometry.{sectors, sector_number, go, sector, written};
 ghost use Rattle.format.specs.Layout.{version_offset, pair_bytes};
 ghost use Rattle.format.specs.Effects.{body, head_of, chained, version, blank_directory, blank_free, blank_system, blank_disc};
 ghost use Rattle.format.specs.Calls.{answered, after_blank};
 ghost use Rattle.geometry.specs.Meaning.{kind_of, geo, sectors_of, Valid, Image};
+ghost use Rattle.refusals.specs.Meaning.{number_of_answer};
 ghost use Rattle.disc.specs.Meaning.{stored_at};
 ghost use Rattle.passing.specs.Meaning.{Stop, Stops, Passed};
 ghost use Rattle.blank.specs.Meaning.{Bare};
 ghost use Rattle.blank.specs.Links.{Linked};
 
 use disc::{Address, Link};
-use geometry::{Geometry, Sized, Stated};
+use geometry::{Geometry, Stated};
 use names::Name;
+use refusals::Refusal;
 
 // 0/1 and 0/4, which the chain passes first, are taken.
 const TAKEN: usize = 2;
-
-fn clear(image: &mut [u8])
-    ensures { image.new ≡ replicate (length image.old) 0 }
-{
-    let length = image.len();
-    byte_loops::fill(image, 0, length, 0);
-}
 
 // Writes the link of a sector that has zeros after it.
 fn link_to(image: &mut [u8], g: Geometry, track: usize, from: u16, to: Address)
@@ -57,9 +52,8 @@ fn put_track(image: &mut [u8], g: Geometry, stops: &[u16], track: usize, first: 
         × (2 ≤ (geo g).per_track * track + first) × Bare (sectors_of g image.old) }
     ensures { Linked g ((geo g).per_track * track + first) ((geo g).per_track * (track + 1)) image.old image.new }
 {
-    let mut i = first;
-    let mut here = stops[i];
-    while i + 1 < g.per_track {
+    let mut here = stops[first];
+    for i in first..g.per_track - 1 {
         let next = stops[i + 1];
         let to = Address {
             track: track as u8,
@@ -67,7 +61,6 @@ fn put_track(image: &mut [u8], g: Geometry, stops: &[u16], track: usize, first: 
         };
         link_to(image, g, track, here, to);
         here = next;
-        i += 1;
     }
     link_to(image, g, track, here, after_track(g, stops, track));
 }
@@ -79,10 +72,8 @@ fn put_chain(image: &mut [u8], g: Geometry, stops: &[u16])
         written (chained (geo g) (blank_free (geo g)) (replicate (sectors (geo g) - 2) (replicate 254 0))) (sectors_of g image.old) }
 {
     put_track(image, g, stops, 0, TAKEN);
-    let mut track: usize = 1;
-    while track < g.tracks {
+    for track in 1..g.tracks {
         put_track(image, g, stops, track, 0);
-        track += 1;
     }
 }
 
@@ -101,6 +92,7 @@ fn pointers(g: Geometry, stops: &[u16]) -> [u8; 4]
 }
 
 // Writes the version into the system sector.
+#[tactic(auto, unfolding(format::specs::Effects::version))]
 fn put_version(image: &mut [u8], g: Geometry)
     requires { Image g image.old }
     ensures { sectors_of g image.new ≡ stored_at (sectors_of g image.old) 0 version_offset version }
@@ -121,8 +113,8 @@ fn put_blank_system(image: &mut [u8], g: Geometry, stops: &[u16], name: Name)
 {
     let pairs = pointers(g, stops);
     disc::put(image, g, system::SYSTEM, system::FREE_POINTER, &pairs);
-    let free = g.sectors - TAKEN;
-    let counts = [(free % 256) as u8, (free / 256 % 256) as u8, 0, 0];
+    let free = byte_loops::word_bytes(g.sectors - TAKEN);
+    let counts = [free[0], free[1], 0, 0];
     disc::put(image, g, system::SYSTEM, system::FREE_COUNT, &counts);
     let nine = name.bytes;
     disc::put(image, g, system::SYSTEM, system::DISC_NAME, &nine);
@@ -135,24 +127,16 @@ fn blank_on(image: &mut [u8], g: Geometry, name: Name)
     ensures { sectors_of g image.new ≡ blank_disc (geo g) name.bytes }
 {
     let stops = passing::stops(g);
-    clear(image);
+    image.fill(0);
     put_blank_system(image, g, &stops, name);
     put_chain(image, g, &stops);
 }
 
-pub fn blank(image: &mut [u8], stated: Stated, name: &[u8]) -> u32
-    ensures { answered result image.new ≡ after_blank (kind_of stated) image.old name.now }
+pub fn blank(image: &mut [u8], stated: Stated, name: &[u8]) -> Result<(), Refusal>
+    ensures { answered (number_of_answer result) image.new ≡ after_blank (kind_of stated) image.old name.now }
 {
-    match geometry::geometry_of(stated, image.len()) {
-        Sized::Wrong => refusals::SIZE,
-        Sized::Of(g) => {
-            let parsed = names::disc_name(name);
-            if !parsed.ok {
-                return refusals::NAME;
-            }
-            let stored = parsed.name;
-            blank_on(image, g, stored);
-            refusals::DONE
-        }
-    }
+    let g = geometry::geometry_of(stated, image.len())?;
+    let stored = names::disc_name(name)?;
+    blank_on(image, g, stored);
+    Ok(())
 }

@@ -1,12 +1,13 @@
 -- Laws of delete: its refusals one after the other.
 -- Assumes nothing.
 use Rattle.std.specs.Prelude.{◌≡◌, ℕ, true, false, List}
-use Rattle.std.proofs.Common.{sym, subst, ◌∙◌}
-use Rattle.format.specs.Refusals.{Try, Refusal, PROTECTED, refused, ok, ◌>>=◌, ◌>>◌, refuse◌if◌}
-use Rattle.format.specs.Geometry.{Geometry, Disc, Write}
+use Rattle.std.proofs.Common.{◌∙◌}
+use Rattle.format.specs.Refusals.{PROTECTED, refused, ok, ◌>>=◌, ◌>>◌, refuse◌if◌}
+use Rattle.format.specs.Geometry.{Geometry, Disc}
 use Rattle.format.specs.Layout.{Slot, attribute_of, is_protected}
 use Rattle.format.specs.Effects.{delete_writes}
 use Rattle.format.specs.Calls.{delete_on}
+use Rattle.refusals.specs.declared.Refusal as code
 use Rattle.answers.specs.Meaning.{Refuses}
 use Rattle.answers.specs.Laws.{refuses_then}
 use Rattle.lookup.specs.Meaning.{entry_on}
@@ -17,8 +18,8 @@ module _ (G : Geometry) (d : Disc) (name : List ℕ) where
   unfolding delete_on
   delete_is = entry_then G d name (λ s. (refuse PROTECTED if is_protected (attribute_of s) >> ok (delete_writes G d s)))
 
-  pub delete_refused : (k : ℕ) → Refuses (entry_on G d name) k → Refuses (delete_on G d name) k
-  delete_refused k h = subst (λ (t : Try Refusal (List Write)). Refuses t k) (sym delete_is) (refuses_then (entry_on G d name) _ k h)
+  pub delete_refused : (e : code.Refusal) → Refuses (entry_on G d name) e → Refuses (delete_on G d name) e
+  delete_refused e h = delete_is ∙ refuses_then (entry_on G d name) _ e h
 
   pub delete_protected : (s : Slot) → entry_on G d name ≡ ok s → is_protected (attribute_of s) ≡ true → delete_on G d name ≡ refused PROTECTED
   unfolding ◌>>=◌ ◌>>◌ refuse◌if◌

@@ -1,75 +1,103 @@
 -- Laws of Meaning: the steps of a walk, the slots of a sector one after the other, the search.
 -- Assumes nothing.
-use Rattle.std.specs.Prelude.{◌≡◌, refl, ◌≢◌, ℕ, ◌+◌, ◌-◌, ◌<◌, Bool, true, false, not}
+use Rattle.std.specs.Prelude.{◌≡◌, refl, ℕ, ◌+◌, ◌-◌, ◌<◌, Bool, true, false, not, Some, None, is_some}
 use Rattle.std.proofs.Common.{sym, ◌∙◌, subst, arith, true≢false, get_or-take}
 use Rattle.std.proofs.Math.Path.{ap, ap₂}
 use Rattle.std.proofs.Math.Option.{none, some}
+use Rattle.std.specs.declared.option.Option as found
+use Rattle.slots.specs.declared.slot_no.SlotNo.{SlotNo}
+use Rattle.slots.specs.Meaning.{slot_of}
 use mathlib.Core.List.{List, [], ◌∷◌, ◌++◌, head?}
 use Rattle.lists.specs.Lists.{byte, same, filter}
-use Rattle.lists.specs.ListLaws.{and_true, filter_join, filter_yes, filter_no, filter_filter, head_left, head_right, same_true}
-use Rattle.format.specs.Geometry.{Geometry, Next, stop, go, off, Disc, sector}
-use Rattle.format.proofs.ChainLaws.{met_stop, met_off, met_none, met_go}
+use Rattle.lists.specs.ListLaws.{All, head_of_all, tail_of, and_true, filter_join, filter_yes, filter_no, filter_filter, head_left, head_right, same_true}
+use Rattle.format.specs.Geometry.{Geometry, sectors, Next, stop, go, off, pointed, Disc, sector}
+use Rattle.format.specs.GeometryLaws as geometry
+use Rattle.format.proofs.GeometryLaws.{pointed_on}
+use Rattle.format.proofs.ChainLaws.{met_stop, met_off, met_none, met_go, met_below}
 use Rattle.format.specs.Names.{letter, legal_stored}
 use Rattle.format.specs.Layout.{slots_each, Slot, empty_slot, free_slot, in_use, name_of, slot_at, slots_at, slots_of, link_of, met, directory_pointer, directory, slots, entries, find, open_slot}
 use Rattle.format.proofs.SlotLaws.{in_use_join}
 use Rattle.geometry.specs.Meaning.{geo, sectors_of, Image}
 use Rattle.disc.specs.Meaning.{meaning}
-use Rattle.disc.specs.Laws.{inside}
 use Rattle.geometry.specs.declared.Geometry as code
 use Rattle.disc.specs.declared.Link.{Link}
+use Rattle.disc.specs.declared.Link.TheVariants.{End, To, Off}
 use Rattle.slots.specs.InOrder.{slots_from, slots_all, slots_next}
-use Rattle.directory.specs.Meaning.{rest_of, entries_left, Started, Met, Stepped, first_that}
+use Rattle.directory.specs.Walk.{rest_of}
+use Rattle.directory.specs.Meaning.{entries_left, MeetsDisc, first_that, found_of, Within}
 use Rattle.geometry.specs.declared.SectorNo.{SectorNo}
-use Rattle.directory.specs.declared.Cursor.{Cursor}
-use Rattle.directory.specs.declared.Visit.{Visit}
-use Rattle.directory.specs.declared.Visit.TheVariants.{Sector, End}
+use Rattle.directory.specs.declared.walk.Sectors.{Sectors}
 
 -- ---- the walk
 
 module _ {g : code.Geometry} {image : List ℕ} (im : Image g image) where
+  -- the sectors met are sectors of the disc
+  pub directory_below : All (λ n. n < g.sectors) (directory (geo g) (sectors_of g image))
+  unfolding directory geometry.OnDisc
+  directory_below =
+      subst (λ (N : ℕ). All (λ n. n < N) (directory (geo g) (sectors_of g image))) (sym im.valid.total)
+      (met_below (geo g) (sectors_of g image) (sectors (geo g)) _ (pointed_on (geo g) _ _))
+
+  -- what a track and a sector byte lead to is a sector of the disc
+  pub led_below : (l : Link SectorNo) (t s : ℕ) → meaning l ≡ pointed (geo g) t s → (n : ℕ) → meaning l ≡ go n → n < g.sectors
+  unfolding geometry.OnDisc
+  led_below l t s e n to = omega (arith, pointed_on (geo g) t s n (sym e ∙ to), im.valid.total)
+
   -- a walk starts at the directory pointer, and can meet as many sectors as the disc has
-  pub started : (l : Link) → meaning l ≡ directory_pointer (geo g) (sectors_of g image) → Started g image (record { at = l; left = g.sectors })
-  unfolding rest_of directory
-  started l e =
-      record {
-        all = ap₂ (met (geo g) (sectors_of g image)) im.valid.total e;
-        inside = inside im.valid l _ _ e;
-      }
+  pub started : (l : Link SectorNo) → meaning l ≡ directory_pointer (geo g) (sectors_of g image)
+      → met (geo g) (sectors_of g image) g.sectors (meaning l) ≡ directory (geo g) (sectors_of g image)
+  unfolding directory
+  started l e = ap₂ (met (geo g) (sectors_of g image)) im.valid.total e
 
-  -- a step to sector n, whose link is l
-  pub step_to : (w : Cursor) (n : ℕ) (l : Link) → w.left ≢ 0 → meaning w.at ≡ go n → n < g.sectors
-      → meaning l ≡ link_of (geo g) (sector (sectors_of g image) n) → Met g image w n (record { at = l; left = w.left - 1 })
+  -- a loop over the sectors of the directory begins
+  pub loop_starts : {w v : Sectors} → w ≡ v → rest_of v ≡ directory (geo g) (sectors_of g image)
+      → MeetsDisc g w × (rest_of w ≡ directory (geo g) (sectors_of g image))
+  loop_starts e all =
+      let same = ap rest_of e ∙ all in
+      (subst (All (λ n. n < g.sectors)) (sym same) directory_below, same)
+
+-- and goes on after sector n
+pub loop_goes : (g : code.Geometry) (w v : Sectors) {n : ℕ} → MeetsDisc g w → rest_of w ≡ n ∷ rest_of v → (n < g.sectors) × MeetsDisc g v
+loop_goes g w v on next = let more = subst (All (λ n. n < g.sectors)) next on in (head_of_all more, tail_of more)
+
+-- every walk meets sectors of its disc
+pub walk_below : (w : Sectors) → MeetsDisc w.g w
+unfolding rest_of geometry.OnDisc
+walk_below w =
+    let total = w.on_image.valid.total in
+    subst (λ (N : ℕ). All (λ n. n < N) (rest_of w)) (sym total)
+    (met_below (geo w.g) (sectors_of w.g w.image.now) w.left (meaning w.at) (λ n to. omega (arith, w.inside n to, total)))
+
+-- a walk that is over
+module _ (w : Sectors) where
+  pub rest_none : w.left ≡ 0 → rest_of w ≡ []
   unfolding rest_of
-  step_to w n l some_left to on e =
-      record {
-        next =
-            ap (met (geo g) (sectors_of g image) w.left) to
-            ∙ met_go (geo g) (sectors_of g image) w.left n (omega arith)
-            ∙ ap (λ (p : Next). n ∷ met (geo g) (sectors_of g image) (w.left - 1) p) (sym e);
-        is_on_disc = on;
-        inside = inside im.valid l _ _ e;
-      }
+  rest_none e = ap (λ (k : ℕ). met (geo w.g) (sectors_of w.g w.image.now) k (meaning w.at)) e ∙ met_none _ _ _
 
-module _ (g : code.Geometry) (image : List ℕ) (w : Cursor) where
-  pub rest_none : w.left ≡ 0 → rest_of g image w ≡ []
+  pub rest_stop : meaning w.at ≡ stop → rest_of w ≡ []
   unfolding rest_of
-  rest_none e = ap (λ (k : ℕ). met (geo g) (sectors_of g image) k (meaning w.at)) e ∙ met_none (geo g) (sectors_of g image) (meaning w.at)
+  rest_stop e = ap (met (geo w.g) (sectors_of w.g w.image.now) w.left) e ∙ met_stop _ _ _
 
-  pub rest_stop : meaning w.at ≡ stop → rest_of g image w ≡ []
+  pub rest_off : meaning w.at ≡ off → rest_of w ≡ []
   unfolding rest_of
-  rest_stop e = ap (met (geo g) (sectors_of g image) w.left) e ∙ met_stop (geo g) (sectors_of g image) w.left
+  rest_off e = ap (met (geo w.g) (sectors_of w.g w.image.now) w.left) e ∙ met_off _ _ _
 
-  pub rest_off : meaning w.at ≡ off → rest_of g image w ≡ []
-  unfolding rest_of
-  rest_off e = ap (met (geo g) (sectors_of g image) w.left) e ∙ met_off (geo g) (sectors_of g image) w.left
+-- a walk of k sectors from a link
+module _ (G : Geometry) (d : Disc) (k : ℕ) (l : Link SectorNo) where
+  pub met_nowhere : ((n : SectorNo) → l ≡ To n → ⊥) → met G d k (meaning l) ≡ []
+  met_nowhere h = by l refl
+    where
+      by : (m : Link SectorNo) → l ≡ m → met G d k (meaning m) ≡ []
+      by End e = met_stop G d k
+      by (To n) e = absurd (h n e)
+      by Off e = met_off G d k
 
--- what a step that was made tells: sector n was met, or the walk is over
-module _ (g : code.Geometry) (image : List ℕ) (w : Cursor) {s : Visit} where
-  pub stepped_to : {n : SectorNo} {v : Cursor} → s ≡ Sector n v → Stepped g image w s → Met g image w n.0 v
-  stepped_to e h = subst (Stepped g image w) e h
-
-  pub stepped_end : s ≡ End → Stepped g image w s → rest_of g image w ≡ []
-  stepped_end e h = subst (Stepped g image w) e h
+  pub met_next : (n : SectorNo) (next : Link SectorNo) → 0 < k → l ≡ To n → meaning next ≡ link_of G (sector d n.0)
+      → met G d k (meaning l) ≡ n.0 ∷ met G d (k - 1) (meaning next)
+  met_next n next more to e =
+      ap (λ (m : Link SectorNo). met G d k (meaning m)) to
+      ∙ met_go G d k n.0 more
+      ∙ ap (λ (p : Next). n.0 ∷ met G d (k - 1) p) (sym e)
 
 -- ---- the slots of sectors
 
@@ -87,22 +115,22 @@ slots_are G d = refl
 
 -- ---- the entries that a walk still meets
 
-module _ {g : code.Geometry} {image : List ℕ} where
-  pub left_all : {w : Cursor} → Started g image w → entries_left g image w ≡ entries (geo g) (sectors_of g image)
+module _ (g : code.Geometry) (image : List ℕ) where
+  pub left_all : (w : Sectors) → rest_of w ≡ directory (geo g) (sectors_of g image) → entries_left g image w ≡ entries (geo g) (sectors_of g image)
   unfolding entries_left entries slots
-  left_all s = ap (λ (ns : List ℕ). in_use (slots_of (sectors_of g image) ns)) s.all
+  left_all w e = ap (λ (ns : List ℕ). in_use (slots_of (sectors_of g image) ns)) e
 
-  pub left_met : {w v : Cursor} {n : ℕ} → Met g image w n v
+  pub left_met : (w v : Sectors) (n : ℕ) → rest_of w ≡ n ∷ rest_of v
       → entries_left g image w ≡ in_use (slots_from (sectors_of g image) n 0) ++ entries_left g image v
   unfolding entries_left
-  left_met {v = v} {n = n} m =
+  left_met w v n e =
       let d : Disc = sectors_of g image in
-      ap (λ (ns : List ℕ). in_use (slots_of d ns)) m.next
-      ∙ ap in_use (slots_cons d n (rest_of g image v))
-      ∙ in_use_join (slots_at d n) (slots_of d (rest_of g image v))
-      ∙ ap (λ (ss : List Slot). in_use ss ++ in_use (slots_of d (rest_of g image v))) (slots_all d n)
+      ap (λ (ns : List ℕ). in_use (slots_of d ns)) e
+      ∙ ap in_use (slots_cons d n (rest_of v))
+      ∙ in_use_join (slots_at d n) (slots_of d (rest_of v))
+      ∙ ap (λ (ss : List Slot). in_use ss ++ in_use (slots_of d (rest_of v))) (slots_all d n)
 
-pub left_over : (g : code.Geometry) (image : List ℕ) (w : Cursor) → rest_of g image w ≡ [] → entries_left g image w ≡ []
+pub left_over : (g : code.Geometry) (image : List ℕ) (w : Sectors) → rest_of w ≡ [] → entries_left g image w ≡ []
 unfolding entries_left slots_of in_use
 left_over g image w e = ap (λ (ns : List ℕ). in_use (slots_of (sectors_of g image) ns)) e
 
@@ -127,6 +155,23 @@ module _ (p : Slot → Bool) where
 
     pub first_after : first_that p (slots_at d n) ≡ none → first_that p (slots_of d (n ∷ ns)) ≡ first_that p (slots_of d ns)
     first_after e = first_join ∙ head_right (filter p (slots_at d n)) (filter p (slots_of d ns)) e
+
+  -- the search of sector n settles that of the sectors from n on, or leaves it to those after it
+  module _ (d : Disc) (n : ℕ) (ns : List ℕ) where
+    pub search_here : (r : found.Option SlotNo) → is_some r ≡ true → found_of d r ≡ first_that p (slots_at d n)
+        → found_of d r ≡ first_that p (slots_of d (n ∷ ns))
+    search_here (Some s) h e = sym (first_in d n ns (slot_of d s) (sym e))
+    search_here None h e = absurd (true≢false (sym h))
+
+    pub search_on : (r : found.Option SlotNo) → is_some r ≡ false → found_of d r ≡ first_that p (slots_at d n)
+        → first_that p (slots_of d (n ∷ ns)) ≡ first_that p (slots_of d ns)
+    search_on (Some s) h e = absurd (true≢false h)
+    search_on None h e = first_after d n ns (sym e)
+
+-- a slot of a sector of the disc
+pub within_disc : (N n : ℕ) → n < N → (r : found.Option SlotNo) → Within (λ k. k ≡ n) r → Within (λ k. k < N) r
+within_disc N n on (Some s) here = omega arith
+within_disc N n on None here = tt
 
 pub open_first : (G : Geometry) (d : Disc) → open_slot G d ≡ first_that free_slot (slots G d)
 unfolding open_slot

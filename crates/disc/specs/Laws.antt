@@ -8,9 +8,8 @@ use Rattle.format.proofs.GeometryLaws.{pointed_on}
 use Rattle.geometry.specs.Meaning.{geo, Valid, Starts}
 use Rattle.disc.specs.Meaning.{meaning, Inside, Lies, Reaches}
 use Rattle.geometry.specs.declared.Geometry.{Geometry}
+use Rattle.geometry.specs.declared.SectorNo.{SectorNo}
 use Rattle.disc.specs.declared.Sector.{Sector}
-use Rattle.disc.specs.declared.Step as code
-use Rattle.disc.specs.declared.Step.{Step}
 use Rattle.disc.specs.declared.Link.{Link}
 use Rattle.disc.specs.declared.Link.TheVariants.{End, To, Off}
 
@@ -24,12 +23,12 @@ lies_starts l = record { at = l.at; fits = l.fits }
 -- ---- links and steps
 
 -- what a track and a sector byte lead to is on the disc
-pub inside : {g : Geometry} → Valid g → (l : Link) (t s : ℕ) → meaning l ≡ pointed (geo g) t s → Inside g l
+pub inside : {g : Geometry} → Valid g → (l : Link SectorNo) (t s : ℕ) → meaning l ≡ pointed (geo g) t s → Inside g l
 unfolding OnDisc
 inside v End t s e = tt
 inside {g} v (To n) t s e = omega (arith, pointed_on (geo g) t s n.0 (sym e))
 inside v Off t s e = tt
 
 -- the sector that a step leads to
-pub reached : (g : Geometry) {r : Step} {s : Sector} → r ≡ code.TheVariants.To s → Reaches g r → Lies g s
+pub reached : (g : Geometry) {r : Link Sector} {s : Sector} → r ≡ To s → Reaches g r → Lies g s
 reached g e h = subst (Reaches g) e h

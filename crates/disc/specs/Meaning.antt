@@ -4,15 +4,14 @@ use Rattle.std.specs.Prelude.{◌≡◌, ℕ, ◌+◌, ◌*◌, ◌≤◌, ◌<�
 use Rattle.std.proofs.lemmas.List.Edits.{sets}
 use Rattle.format.specs.Geometry.{Next, stop, go, off, Disc, sector, start_of}
 use Rattle.geometry.specs.declared.Geometry.{Geometry}
+use Rattle.geometry.specs.declared.SectorNo.{SectorNo}
 use Rattle.disc.specs.declared.Sector.{Sector}
-use Rattle.disc.specs.declared.Step as code
-use Rattle.disc.specs.declared.Step.{Step}
 use Rattle.disc.specs.declared.Link.{Link}
 use Rattle.disc.specs.declared.Link.TheVariants.{End, To, Off}
 use Rattle.geometry.specs.Meaning.{form, geo}
 
 -- what a link of the code leads to
-abbrev pub meaning : Link → Next
+abbrev pub meaning : Link SectorNo → Next
 meaning End = stop
 meaning (To n) = go n.0
 meaning Off = off
@@ -22,7 +21,7 @@ abbrev pub stored_at : Disc → ℕ → ℕ → List ℕ → Disc
 stored_at d n k xs = set d n (sets (sector d n) k xs)
 
 -- a link to a sector of the disc, or to none
-abbrev pub Inside : Geometry → Link → Type 0
+abbrev pub Inside : Geometry → Link SectorNo → Type 0
 Inside g End = Unit {0}
 Inside g (To n) = n.0 < g.sectors
 Inside g Off = Unit {0}
@@ -34,13 +33,13 @@ pub record Lies (g : Geometry) (s : Sector) : Type 0 where
   pub fits : s.start + 256 ≤ 256 * g.sectors
 
 -- what a step of the code leads to
-abbrev pub led : Step → Next
-led code.TheVariants.End = stop
-led (code.TheVariants.To s) = go s.number.0
-led code.TheVariants.Off = off
+abbrev pub led : Link Sector → Next
+led End = stop
+led (To s) = go s.number.0
+led Off = off
 
 -- a step to a sector of the disc whose start is known, or to none
-abbrev pub Reaches : Geometry → Step → Type 0
-Reaches g code.TheVariants.End = Unit {0}
-Reaches g (code.TheVariants.To s) = Lies g s
-Reaches g code.TheVariants.Off = Unit {0}
+abbrev pub Reaches : Geometry → Link Sector → Type 0
+Reaches g End = Unit {0}
+Reaches g (To s) = Lies g s
+Reaches g Off = Unit {0}

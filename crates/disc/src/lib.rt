@@ -41,45 +41,38 @@ pub fn sector_at(g: Geometry, track: usize, sector: usize) -> Sector
     }
 }
 
-// What a track and a sector byte lead to: the end of a chain, a sector of the disc, or no sector of the disc.
+// What a track and a sector byte lead to: the end of a chain, a sector of the disc, which T names, or no sector of the disc.
 #[derive(Clone, Copy)]
-pub enum Step {
+pub enum Link<T> {
     End,
-    To(Sector),
+    To(T),
     Off,
 }
 
-fn step_at(g: Geometry, track: u8, sector: u8) -> Step
+fn step_at(g: Geometry, track: u8, sector: u8) -> Link<Sector>
     requires { Valid g }
     ensures { (led result ≡ pointed (geo g) track sector) × Reaches g result }
 {
     if sector == 0 {
-        return Step::End;
+        return Link::End;
     }
     let t = track as usize;
     let s = sector as usize;
     if geometry::on_disc(g, t, s) {
-        return Step::To(sector_at(g, t, s));
+        return Link::To(sector_at(g, t, s));
     }
-    Step::Off
+    Link::Off
 }
 
 // The same by the sector's number alone.
-#[derive(Clone, Copy)]
-pub enum Link {
-    End,
-    To(SectorNo),
-    Off,
-}
-
-pub fn pointed_at(g: Geometry, track: u8, sector: u8) -> Link
+pub fn pointed_at(g: Geometry, track: u8, sector: u8) -> Link<SectorNo>
     requires { Valid g }
     ensures { meaning result ≡ pointed (geo g) track sector }
 {
     match step_at(g, track, sector) {
-        Step::End => Link::End,
-        Step::Off => Link::Off,
-        Step::To(s) => {
+        Link::End => Link::End,
+        Link::Off => Link::Off,
+        Link::To(s) => {
             let n = s.number;
             Link::To(n)
         }
@@ -87,19 +80,19 @@ pub fn pointed_at(g: Geometry, track: u8, sector: u8) -> Link
 }
 
 // The step to where a link leads.
-pub fn step_to(g: Geometry, to: Link) -> Step
+pub fn step_to(g: Geometry, to: Link<SectorNo>) -> Link<Sector>
     requires { Valid g × Inside g to }
     ensures { (led result ≡ meaning to) × Reaches g result }
 {
     match to {
-        Link::End => Step::End,
-        Link::Off => Step::Off,
-        Link::To(n) => Step::To(sector_of(g, n)),
+        Link::End => Link::End,
+        Link::Off => Link::Off,
+        Link::To(n) => Link::To(sector_of(g, n)),
     }
 }
 
 // Where the pair at offset k of sector n leads.
-pub fn step_of(image: &[u8], g: Geometry, n: SectorNo, k: usize) -> Step
+pub fn step_of(image: &[u8], g: Geometry, n: SectorNo, k: usize) -> Link<Sector>
     requires { Image g image.now × (n.0 < g.sectors) × (k + 1 < 256) }
     ensures { (led result ≡ pair_at (geo g) (sector (sectors_of g image.now) n.0) k) × Reaches g result }
 {
@@ -108,7 +101,7 @@ pub fn step_of(image: &[u8], g: Geometry, n: SectorNo, k: usize) -> Step
 }
 
 // Where the link of a sector leads.
-pub fn step_from(image: &[u8], g: Geometry, s: Sector) -> Step
+pub fn step_from(image: &[u8], g: Geometry, s: Sector) -> Link<Sector>
     requires { Image g image.now × Lies g s }
     ensures { (led result ≡ link_of (geo g) (sector (sectors_of g image.now) s.number.0)) × Reaches g result }
 {
@@ -143,7 +136,7 @@ pub fn word_of(image: &[u8], g: Geometry, n: SectorNo, k: usize) -> u16
 }
 
 // Where the link of sector n leads.
-pub fn link_of(image: &[u8], g: Geometry, n: SectorNo) -> Link
+pub fn link_of(image: &[u8], g: Geometry, n: SectorNo) -> Link<SectorNo>
     requires { Image g image.now × (n.0 < g.sectors) }
     ensures { meaning result ≡ link_of (geo g) (sector (sectors_of g image.now) n.0) }
 {
@@ -152,7 +145,7 @@ pub fn link_of(image: &[u8], g: Geometry, n: SectorNo) -> Link
 }
 
 // Where the pair at offset k of sector n leads.
-pub fn pair_of(image: &[u8], g: Geometry, n: SectorNo, k: usize) -> Link
+pub fn pair_of(image: &[u8], g: Geometry, n: SectorNo, k: usize) -> Link<SectorNo>
     requires { Image g image.now × (n.0 < g.sectors) × (k + 1 < 256) }
     ensures { meaning result ≡ pair_at (geo g) (sector (sectors_of g image.now) n.0) k }
 {
@@ -208,19 +201,18 @@ pub const NOWHERE: Address = Address {
     sector: 0,
 };
 
-pub fn address_of(g: Geometry, to: Link) -> Address
+pub fn address_of(g: Geometry, to: Link<SectorNo>) -> Address
     requires { Valid g × Inside g to }
     ensures { (result.track ≡ track_byte (geo g) (meaning to)) × (result.sector ≡ sector_byte (geo g) (meaning to)) }
 {
     match to {
         Link::To(n) => address_at(g, n),
-        Link::End => NOWHERE,
-        Link::Off => NOWHERE,
+        Link::End | Link::Off => NOWHERE,
     }
 }
 
 // Writes the link of sector n.
-pub fn put_link(image: &mut [u8], g: Geometry, n: SectorNo, to: Link)
+pub fn put_link(image: &mut [u8], g: Geometry, n: SectorNo, to: Link<SectorNo>)
     requires { Image g image.old × (n.0 < g.sectors) × Inside g to }
     ensures { sectors_of g image.new ≡ stored_at (sectors_of g image.old) n.0 link_offset (link_bytes (geo g) (meaning to)) }
 {

@@ -17,11 +17,6 @@ fn main(rt: HostRuntime) -> io::Result<()> {
     views(&rt)
 }
 
-// Sixteen bits, low byte first.
-fn word(low: u8, high: u8) -> u64 {
-    low as u64 + 256 * (high as u64)
-}
-
 // Saves the sheet on a blank disc, and prints its length and the used count of the list.
 fn sectors_taken(rt: &impl Print, sheet: &[u8]) -> io::Result<()> {
     let mut image = [0u8; TRACK];
@@ -41,7 +36,7 @@ fn sectors_taken(rt: &impl Print, sheet: &[u8]) -> io::Result<()> {
     );
     tandos::tandos_list(&image, 10, 0, &mut records);
     let length = sheet.len();
-    let used = word(records[12], records[13]);
+    let used = u16::from_le_bytes([records[12], records[13]]);
     println!(rt; "{length} bytes take {used} sectors")
 }
 
@@ -74,7 +69,7 @@ fn save_letter(rt: &impl Print, image: &mut [u8], letter: u8) -> io::Result<()> 
     tandos::tandos_list(image, 10, 0, &mut records);
     let file = letter as char;
     let number = saved.number;
-    let free = word(records[10], records[11]);
+    let free = u16::from_le_bytes([records[10], records[11]]);
     println!(rt; "save {file}: {number}, free {free}")
 }
 

@@ -1,39 +1,20 @@
 -- The answer of the check, as document 01's numbers.
 -- Assumes nothing.
-use Rattle.std.specs.Prelude.{◌≡◌, ℕ, ◌<◌, List, length}
+use Rattle.std.specs.Prelude.{◌≡◌, ℕ, List, length}
 use Rattle.std.proofs.Math.Path.{ap}
 use Rattle.std.proofs.Common.{◌∙◌}
-use Rattle.format.specs.Refusals.{Try, Refusal, SIZE, refused, ok, ◌>>=◌, number, value_or}
+use Rattle.format.specs.Refusals.{Try, Refusal, number_of, refused, ok, ◌>>=◌, number, value_or}
 use Rattle.geometry.specs.Meaning.{form, geo, sectors_of}
 use Rattle.geometry.specs.Laws.{Opened}
 use Rattle.geometry.specs.declared.Geometry as code
 use Rattle.format.specs.Geometry.{Format, Geometry, geometry, cut}
 use Rattle.format.specs.Check.{broken}
-use Rattle.format.specs.Calls.{CheckAnswer, asked, check_answer_by, after_check}
-use Rattle.fsck.specs.declared.Checked.{Checked}
-use Rattle.fsck.specs.declared.Checked.TheVariants.{Size, Sound, Broken}
-
--- the number and the rule of each case
-abbrev pub answer_of : Checked → CheckAnswer
-answer_of Size = record { number = 1; rule = 0 }
-answer_of Sound = record { number = 0; rule = 0 }
-answer_of (Broken k) = record { number = 0; rule = k }
-
--- a broken rule has a number above 0
-abbrev pub RuleNamed : Checked → Type 0
-RuleNamed Size = Unit {0}
-RuleNamed Sound = Unit {0}
-RuleNamed (Broken k) = 0 < k
-
--- The numbers fix the answer: 0 and 0 is `Sound` alone.
-pub record Answers (r : Checked) (a : CheckAnswer) : Type 0 where
-  pub numbers : answer_of r ≡ a
-  pub named : RuleNamed r
+use Rattle.format.specs.Calls.{asked, check_answer_by, after_check}
 
 module _ (F : Format) (image : List ℕ) where
-  pub after_size : geometry F (length image) ≡ refused SIZE → after_check F image ≡ record { number = 1; rule = 0 }
+  pub after_refused : (e : Refusal) → geometry F (length image) ≡ refused e → after_check F image ≡ record { number = number_of e; rule = 0 }
   unfolding after_check check_answer_by asked ◌>>=◌ number value_or
-  after_size e = ap (λ (t : Try Refusal Geometry). check_answer_by (t >>= (λ G. ok (broken G (cut F G image))))) e
+  after_refused e wrong = ap (λ (t : Try Refusal Geometry). check_answer_by (t >>= (λ G. ok (broken G (cut F G image))))) wrong
 
   on_geometry : (G : Geometry) → geometry F (length image) ≡ ok G → (k : ℕ) → broken G (cut F G image) ≡ k
       → after_check F image ≡ record { number = 0; rule = k }

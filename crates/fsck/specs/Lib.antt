@@ -1,3 +1,4 @@
+pub mod Meaning
 pub mod Free
 pub mod Rules
 pub mod Answer

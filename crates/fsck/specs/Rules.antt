@@ -1,8 +1,11 @@
 -- From what the passes over marks answer to the rules of the check.
 -- Assumes nothing.
-use Rattle.std.specs.Prelude.{◌≡◌, Bool, ◌||◌, length}
+use Rattle.std.specs.Prelude.{◌≡◌, Bool, ◌||◌, length, Ok, Err, Some, None}
+use Rattle.std.specs.Option.{ok_or}
+use Rattle.std.specs.declared.option.Option.{Option}
+use Rattle.std.specs.declared.result.Result.{Result}
 use Rattle.std.proofs.Math.Path.{refl, sym, ap, ap₂}
-use Rattle.std.proofs.Common.{◌∙◌, subst, ne_eqb}
+use Rattle.std.proofs.Common.{◌∙◌, ne_eqb}
 use Prim.Native.Nat.{ℕ, zero, suc, ◌+◌, ◌-◌, ◌≤◌, ◌<◌}
 use native.Mathlib.Omega.{arith}
 use Rattle.std.proofs.Math.Bool.{true, false, not, ◌&&◌}
@@ -20,17 +23,14 @@ use Rattle.format.specs.CheckLaws.{RulesTo5}
 use Rattle.format.proofs.CheckLaws.{broken_5}
 use Rattle.geometry.specs.Meaning.{geo, Valid}
 use Rattle.geometry.specs.declared.Geometry as code
-use Rattle.geometry.specs.declared.SectorNo.{SectorNo}
 use Rattle.fsck_chains.specs.Marks.{no_marks, marked, fresh, clear, Below, marked_join, fresh_join, fresh_none, marked_none}
-use Rattle.fsck_chains.specs.Walks.{ended, Walked, walk_broken, walk_ended}
-use Rattle.fsck_files.specs.Files.{good, FilesMet, filed_bad, filed_good}
+use Rattle.fsck_chains.specs.Walks.{sound_walk, Ended}
+use Rattle.fsck_chains.specs.declared.Chain.{Chain}
+use Rattle.fsck_files.specs.Files.{sound_files, Filed, FilesMet}
+use Rattle.fsck.specs.Meaning.{number_of_rule}
 use Rattle.fsck.specs.Free.{free_good, FreeGood}
-use Rattle.fsck_chains.specs.declared.Followed.{Followed}
-use Rattle.fsck_chains.specs.declared.Followed.TheVariants.{Ended, Broken}
-use Rattle.fsck_files.specs.declared.Files.{Files}
-use Rattle.fsck_files.specs.declared.Files.TheVariants.{Good, Bad}
-use Rattle.fsck.specs.declared.Standing.{Standing}
-use Rattle.fsck.specs.declared.Standing.TheVariants.{Fails, Holds}
+use Rattle.fsck.specs.declared.Rule.{Rule}
+use Rattle.fsck.specs.declared.Rule.TheVariants.{Files}
 
 -- the marks of 0/1 and of the sectors ns
 unfoldable pub marks_of : List ℕ → List ℕ
@@ -43,19 +43,10 @@ pub record RulesTo4 (G : Geometry) (d : Disc) : Type 0 where
   pub r3 : rule3 G d ≡ true
   pub r4 : rule4 G d ≡ true
 
--- what rules 1 to 4 answer, and the marks that they leave: 0 where they hold
-pub record DirectoryChecked (G : Geometry) (d : Disc) (r : ℕ) (m' : List ℕ) : Type 0 where
-  pub lowest : (r ≡ 0 → ⊥) → r ≡ broken G d
-  pub few : r ≤ 4
-  pub rules : r ≡ 0 → RulesTo4 G d
-  pub marks : r ≡ 0 → m' ≡ marks_of (directory G d)
-
-module _ {G : Geometry} {d : Disc} {m' : List ℕ} where
-  pub checked_broken : (r : ℕ) → 0 < r → r ≤ 4 → broken G d ≡ r → DirectoryChecked G d r m'
-  checked_broken r h few e = record { lowest = λ _. sym e; few = few; rules = λ z. absurd (omega arith); marks = λ z. absurd (omega arith) }
-
-  pub checked_sound : RulesTo4 G d → m' ≡ marks_of (directory G d) → DirectoryChecked G d 0 m'
-  checked_sound h e = record { lowest = λ z. absurd (z refl); few = omega arith; rules = λ _. h; marks = λ _. e }
+-- they hold, and the marks are those of 0/1 and the directory
+pub record DirectoryStood (G : Geometry) (d : Disc) (m : List ℕ) : Type 0 where
+  pub rules : RulesTo4 G d
+  pub marks : m ≡ marks_of (directory G d)
 
 -- rules 1 to 5 hold, the files have k sectors, and the marks are those of 0/1, the directory and the files
 pub record Stood (G : Geometry) (d : Disc) (k : ℕ) (m : List ℕ) : Type 0 where
@@ -69,17 +60,15 @@ pub record Lowest (G : Geometry) (d : Disc) (k : ℕ) : Type 0 where
   pub some : 0 < k
   pub few : k ≤ 5
 
+-- what rules 1 to 4 answer, and the marks that they leave where they hold
+abbrev pub DirectoryChecked : {A : Type 0} → Geometry → Disc → Result A Rule → List ℕ → Type 0
+DirectoryChecked G d (Ok a) m = DirectoryStood G d m
+DirectoryChecked G d (Err r) m = Lowest G d (number_of_rule r) × (number_of_rule r ≤ 4)
+
 -- what rules 1 to 5 answer, and the marks that they leave
-abbrev pub Stands : Geometry → Disc → Standing → List ℕ → Type 0
-Stands G d (Fails k) m = Lowest G d k
-Stands G d (Holds k) m = Stood G d k m
-
-module _ (G : Geometry) (d : Disc) (m : List ℕ) (k : ℕ) {r : Standing} (s : Stands G d r m) where
-  pub stands_broken : r ≡ Fails k → Lowest G d k
-  stands_broken e = subst (λ (x : Standing). Stands G d x m) e s
-
-  pub stands_good : r ≡ Holds k → Stood G d k m
-  stands_good e = subst (λ (x : Standing). Stands G d x m) e s
+abbrev pub Stands : Geometry → Disc → Result ℕ Rule → List ℕ → Type 0
+Stands G d (Ok k) m = Stood G d k m
+Stands G d (Err r) m = Lowest G d (number_of_rule r)
 
 -- ---- marks of sectors that are met one after the other
 
@@ -133,49 +122,52 @@ module _ {g : code.Geometry} (v : Valid g) (d : Disc) where
     unfolding rule1
     rule1_is h = sym (h ∙ ap elsewhere first)
 
-    module _ {m : List ℕ} (before : m ≡ marks_of []) {w : Followed} {m' : List ℕ} (f : Walked G d p m w m') where
-      walk_is : rule2 G d ≡ chain_ends G d p && fresh m (chain G d p)
+    module _ {m : List ℕ} (before : m ≡ marks_of []) where
+      walk_is : rule2 G d ≡ sound_walk G d p m
       unfolding rule2 directory
       walk_is =
           ap (λ (b : Bool). chain_ends G d (directory_pointer G d) && b) (sym (fresh_after [] (directory G d) below_system below_directory refl))
-          ∙ ap₂ (λ (x : Next) (y : List ℕ). chain_ends G d x && fresh y (chain G d x)) (sym first) (sym before)
+          ∙ ap₂ (λ (x : Next) (y : List ℕ). sound_walk G d x y) (sym first) (sym before)
 
-      pub rule2_broken : w ≡ Broken → rule2 G d ≡ false
-      rule2_broken e = walk_is ∙ walk_broken G d p m (sym e ∙ f.answer)
+      pub rule2_broken : sound_walk G d p m ≡ false → rule2 G d ≡ false
+      rule2_broken e = walk_is ∙ e
 
-      pub rule2_ended : (k : ℕ) (l : SectorNo) → w ≡ Ended k l → (rule2 G d ≡ true) × (m' ≡ marks_of (directory G d))
+      pub rule2_ended : {c : Chain} {m' : List ℕ} → Ended G d p m c m' → (rule2 G d ≡ true) × (m' ≡ marks_of (directory G d))
       unfolding directory
-      rule2_ended k l e = (
-        walk_is ∙ (walk_ended G d p m k l (sym e ∙ f.answer)).0,
-        f.marks (ended e) ∙ ap₂ (λ (x : Next) (y : List ℕ). marked y (chain G d x)) first before ∙ marks_join [] (directory G d),
+      rule2_ended f = (
+        walk_is ∙ f.sound,
+        f.marks ∙ ap₂ (λ (x : Next) (y : List ℕ). marked y (chain G d x)) first before ∙ marks_join [] (directory G d),
       )
 
   -- ---- rule 5
 
-  module _ (r : RulesTo4 G d) {m : List ℕ} (before : m ≡ marks_of (directory G d))
-      {most : ℕ} {a : Files} {m' : List ℕ} (f : FilesMet G d (entries G d) most m a m') where
-    files_are : rule5 G d ≡ all (good_chain G d) (entries G d) && fresh m (file_sectors G d)
-    unfolding rule5 rule2
+  module _ {m : List ℕ} (s : DirectoryStood G d m) where
+    files_are : rule5 G d ≡ sound_files G d m (entries G d)
+    unfolding rule5 rule2 sound_files file_sectors
     files_are =
-        let once = (and_true (chain_ends G d (directory_pointer G d)) (distinct (0 ∷ directory G d)) r.r2).1 in
+        let once = (and_true (chain_ends G d (directory_pointer G d)) (distinct (0 ∷ directory G d)) s.rules.r2).1 in
         let free = fresh_after (directory G d) (file_sectors G d) (all_join below_system below_directory) below_files once in
-        ap (λ (b : Bool). all (good_chain G d) (entries G d) && b) (sym free ∙ ap (λ (y : List ℕ). fresh y (file_sectors G d)) (sym before))
+        ap (λ (b : Bool). all (good_chain G d) (entries G d) && b) (sym free ∙ ap (λ (y : List ℕ). fresh y (file_sectors G d)) (sym s.marks))
 
-    pub rule5_bad : a ≡ Bad → Lowest G d 5
-    unfolding file_sectors
+    pub rule5_bad : sound_files G d m (entries G d) ≡ false → Lowest G d 5
     rule5_bad e =
-        let r5 = files_are ∙ filed_bad G d m (entries G d) (sym e ∙ f.answer) in
-        record { is = sym (broken_5 G d r.r1 r.r2 r.r3 r.r4 r5); some = omega arith; few = omega arith }
+        let r = s.rules in
+        record { is = sym (broken_5 G d r.r1 r.r2 r.r3 r.r4 (files_are ∙ e)); some = omega arith; few = omega arith }
 
-    pub rule5_good : (k : ℕ) → a ≡ Good k → Stood G d k m'
+    pub rule5_good : {most k : ℕ} {m' : List ℕ} → Filed G d (entries G d) most m k m' → Stood G d k m'
     unfolding file_sectors
-    rule5_good k e =
-        let says = filed_good G d m (entries G d) k (sym e ∙ f.answer) in
+    rule5_good f =
+        let r = s.rules in
         record {
-          to5 = record { r1 = r.r1; r2 = r.r2; r3 = r.r3; r4 = r.r4; r5 = files_are ∙ says.0 };
-          used = says.1;
-          marks = f.marks (good e) ∙ ap (λ (y : List ℕ). marked y (file_sectors G d)) before ∙ marks_join (directory G d) (file_sectors G d);
+          to5 = record { r1 = r.r1; r2 = r.r2; r3 = r.r3; r4 = r.r4; r5 = files_are ∙ f.sound };
+          used = f.count;
+          marks = f.marks ∙ ap (λ (y : List ℕ). marked y (file_sectors G d)) s.marks ∙ marks_join (directory G d) (file_sectors G d);
         }
+
+    -- what the pass over the files answers is what rules 1 to 5 do
+    pub files_stood : (most : ℕ) (m' : List ℕ) (r : Option ℕ) → FilesMet G d (entries G d) most m r m' → Stands G d (ok_or r Files) m'
+    files_stood most m' (Some k) f = rule5_good f
+    files_stood most m' None e = rule5_bad e
 
   -- a sector without a mark is neither 0/1 nor met by the directory or a file
   pub clear_is : {m : List ℕ} → m ≡ marks_of (directory G d ++ file_sectors G d) → (n : ℕ) → n < g.sectors

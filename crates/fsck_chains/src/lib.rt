@@ -6,18 +6,18 @@ ghost use Rattle.geometry.specs.Meaning.{geo, sectors_of, Image};
 ghost use Rattle.disc.specs.Meaning.{Lies, led, Reaches};
 ghost use Rattle.fsck_chains.specs.Walks.{Walked};
 
-use disc::{Sector, Step};
+use disc::{Link, Sector};
 use geometry::{Geometry, SectorNo};
 
-// How a walk along a chain comes out: at an end link, with the number of sectors met and the last of them; or not.
+// A chain that came to an end link: the number of sectors met, and the last of them.
 #[derive(Clone, Copy)]
-pub enum Followed {
-    Ended { count: usize, last: SectorNo },
-    Broken,
+pub struct Chain {
+    pub count: usize,
+    pub last: SectorNo,
 }
 
-// Walks along a chain from a sector on, and marks each sector met. A sector with a mark breaks the walk.
-fn follow_from(image: &[u8], g: Geometry, first: Sector, marks: &mut [u8; 800]) -> Followed
+// Walks along a chain from a sector on, and marks each sector met. A sector with a mark breaks the walk, and so does a link off the disc.
+fn follow_from(image: &[u8], g: Geometry, first: Sector, marks: &mut [u8; 800]) -> Option<Chain>
     requires { Image g image.now × Lies g first }
     ensures { Walked (geo g) (sectors_of g image.now) (go first.number.0) marks.old result marks.new }
 {
@@ -26,41 +26,35 @@ fn follow_from(image: &[u8], g: Geometry, first: Sector, marks: &mut [u8; 800]) 
     let mut count: usize = 0;
     loop {
         if count == most {
-            return Followed::Broken;
+            return None;
         }
         let last = at.number;
         let n = last.0;
-        if marks[n] != 0 {
-            return Followed::Broken;
+        let is_met = marks[n] != 0;
+        if is_met {
+            return None;
         }
         marks[n] = 1;
         count += 1;
-        let next = disc::step_from(image, g, at);
-        match next {
-            Step::End => {
-                return Followed::Ended { count, last };
-            }
-            Step::Off => {
-                return Followed::Broken;
-            }
-            Step::To(s) => {
-                at = s;
-            }
+        match disc::step_from(image, g, at) {
+            Link::End => return Some(Chain { count, last }),
+            Link::Off => return None,
+            Link::To(s) => at = s,
         }
     }
 }
 
 // The same from where a pointer or a link leads.
-pub fn follow(image: &[u8], g: Geometry, from: Step, marks: &mut [u8; 800]) -> Followed
+pub fn follow(image: &[u8], g: Geometry, from: Link<Sector>, marks: &mut [u8; 800]) -> Option<Chain>
     requires { Image g image.now × Reaches g from }
     ensures { Walked (geo g) (sectors_of g image.now) (led from) marks.old result marks.new }
 {
     match from {
-        Step::End => Followed::Ended {
+        Link::End => Some(Chain {
             count: 0,
             last: SectorNo(0),
-        },
-        Step::Off => Followed::Broken,
-        Step::To(s) => follow_from(image, g, s, marks),
+        }),
+        Link::Off => None,
+        Link::To(s) => follow_from(image, g, s, marks),
     }
 }

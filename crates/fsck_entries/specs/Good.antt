@@ -1,42 +1,39 @@
 -- Rule 3: an entry's name, length and attribute, and the count of a directory sector.
 -- Assumes nothing.
-use Rattle.std.specs.Prelude.{◌≡◌, refl, ℕ, suc, ◌+◌, ◌≤◌, ◌<◌, Bool, take, drop}
+use Rattle.std.specs.Prelude.{◌≡◌, refl, ℕ, zero, suc, get_or, ◌+◌, ◌≤◌, ◌<◌, Bool, take, drop}
+use Rattle.std.specs.List.{list_all, prefix_len}
 use Rattle.std.proofs.Math.Path.{sym, ap, ap₂}
 use Rattle.std.proofs.Common.{◌∙◌, arith, take-take, drop-drop, get_or-take, get_or-drop}
-use Rattle.std.proofs.Math.Bool.{true, false, ◌&&◌, and-true, and-false}
+use Rattle.std.proofs.Math.Bool.{true, false, not, ◌&&◌, and-true, and-false}
 use mathlib.Core.List.{List, [], ◌∷◌}
 use Rattle.std.proofs.Math.ListN.{length}
 use Rattle.std.proofs.Math.Seq.{slice}
-use Rattle.std.proofs.Math.Dec.{eqb}
-use borrow.Author.Tests.{le-leb}
+use Rattle.std.proofs.Math.Dec.{eqb, leb}
+use Rattle.std.proofs.lemmas.Bool.Decides.{nat_tests}
 use Rattle.lists.specs.Lists.{all, byte}
-use Rattle.lists.specs.ListLaws.{drop_take, test_join, and_exchange}
+use Rattle.lists.specs.ListLaws.{All, done, ◌also◌, drop_take, test_join, and_exchange}
 use Rattle.format.specs.Geometry.{Geometry, Disc, sector}
 use Rattle.format.specs.Layout.{slots_each, in_use_offset, is_attribute, Slot, free_slot, in_use, name_of, length_of, attribute_of, slot_at, slots_at, slots_of, directory, slots, entries}
 use Rattle.format.proofs.SlotLaws.{in_use_join}
 use Rattle.format.specs.Names.{letter, space, spaced, legal_stored}
 use Rattle.format.specs.Check.{good_entry, counted, rule3}
-use Rattle.byte_loops.specs.Laws.{slice_over, slice_step, all_over}
+use Rattle.byte_loops.specs.Laws.{all_equal}
 use Rattle.slots.specs.InOrder.{use_next_free, use_next_used, use_over, slots_from, slots_all}
 
--- ---- letters, then spaces, from byte i to byte e of an image
+-- ---- letters, then spaces
 
-module _ (image : List ℕ) (i e : ℕ) (inside : e ≤ length image) where
-  pub spaced_over : e ≤ i → spaced (slice i e image) ≡ all (eqb space) (slice i e image)
-  unfolding spaced
-  spaced_over past = ap spaced (slice_over image i e inside past) ∙ sym (all_over image i e inside space past)
+-- all are spaces past the letters in front
+abbrev spaces_past : List ℕ → Bool
+spaces_past xs = list_all (λ b. eqb b space) (drop (prefix_len letter xs) xs)
 
-  module _ (before : i < e) where
-    here : slice i e image ≡ byte image i ∷ slice (i + 1) e image
-    here = slice_step image i e inside before
-
-    pub spaced_letter : letter (byte image i) ≡ true → spaced (slice i e image) ≡ spaced (slice (i + 1) e image)
-    unfolding spaced
-    spaced_letter h = ap spaced here ∙ simp h
-
-    pub spaced_rest : letter (byte image i) ≡ false → spaced (slice i e image) ≡ all (eqb space) (slice i e image)
-    unfolding spaced
-    spaced_rest h = ap spaced here ∙ simp h (ap (all (eqb space)) (sym here))
+pub spaced_tail : (xs : List ℕ) → spaces_past xs ≡ spaced xs
+unfolding spaced
+spaced_tail [] = refl
+spaced_tail (x ∷ xs) = by (letter x) refl (spaced_tail xs)
+  where
+    by : (c : Bool) → letter x ≡ c → spaces_past xs ≡ spaced xs → spaces_past (x ∷ xs) ≡ spaced (x ∷ xs)
+    by true e rest = let next : 1 + prefix_len letter xs ≡ suc (prefix_len letter xs) = omega arith in simp (e, next) rest
+    by false e rest = simp e (all_equal space (x ∷ xs))
 
 -- ---- the nine bytes of a name from byte a of an image on
 
@@ -61,19 +58,12 @@ module _ (image : List ℕ) (a : ℕ) where
       sym (ap₂ ◌&&◌ (ap₂ ◌&&◌ (ap letter first_byte) (ap spaced name_part)) (ap spaced extension_part))
 
 -- an entry, by what is asked of its fields one after the other
-module _ (s : Slot) {l : Bool} (named : l ≡ legal_stored (name_of s)) where
-  pub entry_nameless : l ≡ false → false ≡ good_entry s
-  unfolding good_entry
-  entry_nameless e = simp (← named, e)
-
-  module _ (legal : l ≡ true) where
-    pub entry_empty : length_of s ≡ 0 → false ≡ good_entry s
-    unfolding good_entry
-    entry_empty e = simp (← named, legal, e)
-
-    pub entry_rest : 1 ≤ length_of s → is_attribute (attribute_of s) ≡ good_entry s
-    unfolding good_entry
-    entry_rest some = simp (← named, legal, le-leb 1 (length_of s) some)
+pub entry_is : (s : Slot) {l : Bool} → l ≡ legal_stored (name_of s) → good_entry s ≡ l && not (eqb (length_of s) 0) && is_attribute (attribute_of s)
+unfolding good_entry
+entry_is s {l} named = ap₂ (λ (a b : Bool). a && b && is_attribute (attribute_of s)) (sym named) (some (length_of s))
+  where
+    some : (n : ℕ) → leb 1 n ≡ not (eqb n 0)
+    some n = grind (arith, nat_tests)
 
 -- ---- a directory sector
 
@@ -130,7 +120,7 @@ module _ {d : Disc} {n i used : ℕ} (p : Passed d n i used) where
 
 -- ---- the directory
 
-pub sectors_good : (G : Geometry) (d : Disc) (ns : List ℕ) → all (good_sector G d) ns ≡ all (counted G d) ns && all good_entry (in_use (slots_of d ns))
+pub sectors_good : (G : Geometry) (d : Disc) (ns : List ℕ) → list_all (good_sector G d) ns ≡ all (counted G d) ns && all good_entry (in_use (slots_of d ns))
 unfolding good_sector slots_of in_use
 sectors_good G d [] = refl
 sectors_good G d (n ∷ ns) =
@@ -140,21 +130,12 @@ sectors_good G d (n ∷ ns) =
     (sym (ap (all good_entry) (in_use_join (slots_at d n) (slots_of d ns)) ∙ test_join good_entry (in_use (slots_at d n)) (in_use (slots_of d ns))))
 
 -- the directory
-pub rule3_is : (G : Geometry) (d : Disc) → all (good_sector G d) (directory G d) ≡ rule3 G d
+pub rule3_is : (G : Geometry) (d : Disc) → list_all (good_sector G d) (directory G d) ≡ rule3 G d
 unfolding rule3 entries slots
 rule3_is G d = sectors_good G d (directory G d)
 
--- a test of each of the sectors ns: of the first, and then of the others
-module _ (P : ℕ → Bool) {ns : List ℕ} {b : Bool} (i : all P ns ≡ b) where
-  pub each_over : ns ≡ [] → true ≡ b
-  each_over e = ap (all P) (sym e) ∙ i
-
-  module _ (n : ℕ) (ms : List ℕ) (h : ns ≡ n ∷ ms) {r : Bool} (e : r ≡ P n) where
-    turn : r && all P ms ≡ b
-    turn = ap (λ (x : Bool). x && all P ms) e ∙ ap (all P) (sym h) ∙ i
-
-    pub each_not : r ≡ false → false ≡ b
-    each_not q = ap (λ (x : Bool). x && all P ms) (sym q) ∙ turn
-
-    pub each_next : r ≡ true → all P ms ≡ b
-    each_next q = ap (λ (x : Bool). x && all P ms) (sym q) ∙ turn
+-- each of the sectors is one of the disc
+pub each_below : {N : ℕ} {ns : List ℕ} → All (λ n. n < N) ns → (k n : ℕ) → k < length ns → n ≡ get_or ns k n → n < N
+each_below done k n h e = absurd (omega arith)
+each_below (here also rest) zero n h e = omega arith
+each_below (here also rest) (suc k) n h e = each_below rest k n (omega arith) e

@@ -2,221 +2,131 @@
 -- Assumes nothing.
 use Rattle.std.proofs.Math.Path.{◌≡◌, refl, sym, ap, ap₂}
 use Rattle.std.proofs.Common.{◌∙◌, subst, true≢false, eq-eqb, ne_eqb}
-use Rattle.std.specs.Prelude.{◌≢◌, ℕ, ◌+◌, ◌≤◌, Bool, length, eqb}
+use Rattle.std.specs.Prelude.{◌≢◌, ℕ, ◌+◌, ◌≤◌, Bool, eqb, Some, None}
+use Rattle.std.specs.declared.option.Option.{Option}
 use native.Mathlib.Omega.{arith}
-use Rattle.std.proofs.Math.Bool.{true, false, cond, ◌&&◌, and-false}
+use Rattle.std.proofs.Math.Bool.{true, false, ◌&&◌, and-false}
 use Rattle.std.proofs.Math.Bool as Bool
 use mathlib.Core.List.{List, [], ◌∷◌, ◌++◌, map, append-nil, map-append}
-use Rattle.lists.specs.Lists.{all, joined, sum, last_or}
+use Rattle.lists.specs.Lists.{all, joined, sum}
 use Rattle.lists.specs.ListLaws.{and_true, joined_join, sum_join, test_join, and_exchange}
 use Rattle.format.specs.Geometry.{Geometry, sectors, Next, Disc}
 use Rattle.format.specs.Layout.{Slot, length_of, chain, chain_ends, first_of, last_of, file_chain}
 use Rattle.format.proofs.ChainLaws.{met_few}
 use Rattle.format.specs.Check.{at?, good_chain}
-use Rattle.geometry.specs.declared.SectorNo.{SectorNo}
 use Rattle.fsck_chains.specs.Marks.{marked, fresh, marked_join, fresh_join}
-use Rattle.fsck_chains.specs.Walks.{Walked, ended, walk_broken, walk_ended}
-use Rattle.fsck_chains.specs.declared.Followed.{Followed}
-use Rattle.fsck_chains.specs.declared.Followed.TheVariants.{Ended, Broken}
-use Rattle.fsck_files.specs.declared.Files.{Files}
-use Rattle.fsck_files.specs.declared.Files.TheVariants.{Good, Bad}
+use Rattle.fsck_chains.specs.Walks.{sound_walk, Ended}
+use Rattle.fsck_chains.specs.declared.Chain.{Chain}
 
 -- the sectors of the files of some entries
 abbrev pub files_of : Geometry → Disc → List Slot → List ℕ
 files_of G d es = joined (map (file_chain G d) es)
 
--- what a pass over the files of some entries answers, with the marks m and c sectors counted before
-unfoldable pub filed : Geometry → Disc → (m : List ℕ) (c : ℕ) → List Slot → Files
-filed G d m c es = cond (all (good_chain G d) es && fresh m (files_of G d es)) (Good (c + sum (map length_of es))) Bad
+-- their chains are as the entries say, over sectors without a mark
+unfoldable pub sound_files : Geometry → Disc → List ℕ → List Slot → Bool
+sound_files G d m es = all (good_chain G d) es && fresh m (files_of G d es)
 
--- the files are as their entries say
-abbrev pub Good? : Files → Type 0
-Good? (Good k) = Unit {0}
-Good? Bad = ⊥
+-- what is said of files that are as their entries say: how many sectors they have, at most so many, and the marks that the pass leaves
+pub record Filed (G : Geometry) (d : Disc) (es : List Slot) (most : ℕ) (m : List ℕ) (k : ℕ) (m' : List ℕ) : Type 0 where
+  pub sound : sound_files G d m es ≡ true
+  pub count : k ≡ sum (map length_of es)
+  pub marks : m' ≡ marked m (files_of G d es)
+  pub few : k ≤ most
 
-pub good : {r : Files} {k : ℕ} → r ≡ Good k → Good? r
-good e = subst Good? (sym e) tt
+-- what a pass over the files of some entries answers
+abbrev pub FilesMet : Geometry → Disc → List Slot → (most : ℕ) → List ℕ → Option ℕ → List ℕ → Type 0
+FilesMet G d es most m (Some k) m' = Filed G d es most m k m'
+FilesMet G d es most m None m' = sound_files G d m es ≡ false
 
--- the count that is answered, if one is
-abbrev pub AtMost : ℕ → Files → Type 0
-AtMost most (Good k) = k ≤ most
-AtMost most Bad = Unit {0}
-
--- what a pass answers that starts with no sectors counted, and the marks that it leaves
-pub record FilesMet (G : Geometry) (d : Disc) (es : List Slot) (most : ℕ) (m : List ℕ) (r : Files) (m' : List ℕ) : Type 0 where
-  pub answer : r ≡ filed G d m 0 es
-  pub marks : Good? r → m' ≡ marked m (files_of G d es)
-  pub few : AtMost most r
-
-pub at_most : {most : ℕ} {r : Files} (k : ℕ) → r ≡ Good k → AtMost most r → k ≤ most
-at_most {most} k e h = subst (AtMost most) e h
-
--- a pass that has come to the entries es with c sectors counted: what is left of it decides
-pub record Filing (G : Geometry) (d : Disc) (es : List Slot) (m : List ℕ) (c : ℕ) (r : Files) (m' : List ℕ) : Type 0 where
-  pub left : filed G d m c es ≡ r
-  pub marks : marked m (files_of G d es) ≡ m'
-
--- ---- what an answer says
-
-module _ (G : Geometry) (d : Disc) (m : List ℕ) (es : List Slot) where
-  abbrev sound_files : Bool
-  sound_files = all (good_chain G d) es && fresh m (files_of G d es)
-
-  abbrev answer_by : Bool → Files
-  answer_by b = cond b (Good (0 + sum (map length_of es))) Bad
-
-  pub filed_bad : Bad ≡ filed G d m 0 es → sound_files ≡ false
-  unfolding filed
-  filed_bad e = by sound_files e
-    where
-      by : (b : Bool) → Bad ≡ answer_by b → b ≡ false
-      by true e = let z : ◌≡◌ {A = ℕ} 0 1 = cc in absurd (omega arith)
-      by false e = refl
-
-  pub filed_good : (k : ℕ) → Good k ≡ filed G d m 0 es → (sound_files ≡ true) × (k ≡ sum (map length_of es))
-  unfolding filed
-  filed_good k e = by sound_files e
-    where
-      zero_more : 0 + sum (map length_of es) ≡ sum (map length_of es)
-      zero_more = omega arith
-
-      by : (b : Bool) → Good k ≡ answer_by b → (b ≡ true) × (k ≡ sum (map length_of es))
-      by true e = (refl, cc zero_more)
-      by false e = let z : ◌≡◌ {A = ℕ} 0 1 = cc in absurd (omega arith)
+-- a pass over `all` that has come to the entries es with c sectors counted: what is left of it decides
+pub record Filing (G : Geometry) (d : Disc) (es : List Slot) (m : List ℕ) (c : ℕ) (whole : List Slot) (m₀ : List ℕ) : Type 0 where
+  pub sound : sound_files G d m es ≡ sound_files G d m₀ whole
+  pub count : c + sum (map length_of es) ≡ sum (map length_of whole)
+  pub marks : marked m (files_of G d es) ≡ marked m₀ (files_of G d whole)
 
 -- ---- some entries, and then others
 
-module _ (G : Geometry) (d : Disc) (m : List ℕ) (c : ℕ) (es fs : List Slot) where
-  abbrev good_chains : List Slot → Bool
-  good_chains xs = all (good_chain G d) xs
+module _ (G : Geometry) (d : Disc) (m : List ℕ) (xs fs : List Slot) where
+  files_join : files_of G d (xs ++ fs) ≡ files_of G d xs ++ files_of G d fs
+  files_join = joined_join (file_chain G d) xs fs
 
-  abbrev m' : List ℕ
-  m' = marked m (files_of G d es)
-
-  filed_join : filed G d m c (es ++ fs)
-      ≡ cond (good_chains es && fresh m (files_of G d es) && (good_chains fs && fresh m' (files_of G d fs)))
-      (Good (c + sum (map length_of es) + sum (map length_of fs)))
-      Bad
-  unfolding filed
-  filed_join =
-      ap₂ (λ (b : Bool) (k : ℕ). cond b (Good k) Bad)
-      (ap₂ ◌&&◌ (test_join (good_chain G d) es fs) (ap (fresh m) (joined_join (file_chain G d) es fs) ∙ fresh_join m (files_of G d es) (files_of G d fs))
-      ∙ and_exchange (good_chains es) (good_chains fs) (fresh m (files_of G d es)) (fresh m' (files_of G d fs)))
-      (omega (arith, ap sum (map-append length_of es fs), sum_join (map length_of es) (map length_of fs)))
-
-  join_bad : Bad ≡ filed G d m 0 es → filed G d m c (es ++ fs) ≡ Bad
-  join_bad e = filed_join ∙ simp (filed_bad G d m es e)
-
-  join_good : (k : ℕ) → Good k ≡ filed G d m 0 es → filed G d m c (es ++ fs) ≡ filed G d m' (c + k) fs
-  unfolding filed
-  join_good k e =
-      let h = filed_good G d m es k e in
-      let q : c + sum (map length_of es) + sum (map length_of fs) ≡ c + k + sum (map length_of fs) = omega (arith, h.1) in
-      filed_join ∙ ap₂ (λ (b : Bool) (x : ℕ). cond (b && (good_chains fs && fresh m' (files_of G d fs))) (Good x) Bad) h.0 q
+  sound_join : sound_files G d m (xs ++ fs) ≡ sound_files G d m xs && sound_files G d (marked m (files_of G d xs)) fs
+  unfolding sound_files
+  sound_join =
+      ap₂ ◌&&◌ (test_join (good_chain G d) xs fs) (ap (fresh m) files_join ∙ fresh_join m (files_of G d xs) (files_of G d fs))
+      ∙ and_exchange (all (good_chain G d) xs) (all (good_chain G d) fs) (fresh m (files_of G d xs)) (fresh (marked m (files_of G d xs)) (files_of G d fs))
 
 -- ---- the turns of a pass
 
-pub filing_start : {G : Geometry} {d : Disc} {es : List Slot} {m : List ℕ} (fs : List Slot) → fs ≡ es
-    → Filing G d fs m 0 (filed G d m 0 es) (marked m (files_of G d es))
-filing_start {G} {d} {m = m} fs e = record { left = ap (filed G d m 0) e; marks = ap (λ (xs : List Slot). marked m (files_of G d xs)) e }
+pub filing_start : {G : Geometry} {d : Disc} {es : List Slot} {m : List ℕ} (fs : List Slot) → fs ≡ es → Filing G d fs m 0 es m
+filing_start {G} {d} {es} {m} fs e = subst (λ (xs : List Slot). Filing G d xs m 0 es m) (sym e) (record { sound = refl; count = omega arith; marks = refl })
 
-module _ {G : Geometry} {d : Disc} {es : List Slot} {m : List ℕ} {c : ℕ} {r : Files} {m' : List ℕ} (i : Filing G d es m c r m') where
-  pub filing_over : es ≡ [] → (Good c ≡ r) × (m ≡ m')
-  unfolding filed fresh marked
-  filing_over e = (
-    ap Good (omega arith) ∙ ap (filed G d m c) (sym e) ∙ i.left,
-    ap (λ (xs : List Slot). marked m (files_of G d xs)) (sym e) ∙ i.marks,
-  )
-
+module _ {G : Geometry} {d : Disc} {es : List Slot} {m : List ℕ} {c : ℕ} {whole : List Slot} {m₀ : List ℕ} (i : Filing G d es m c whole m₀) where
   -- nothing is taken
-  pub filing_skip : {fs : List Slot} → es ≡ fs → Filing G d fs m c r m'
-  filing_skip e = record { left = rw e at i.left; marks = rw e at i.marks }
+  pub filing_skip : {fs : List Slot} → es ≡ fs → Filing G d fs m c whole m₀
+  filing_skip e = subst (λ (xs : List Slot). Filing G d xs m c whole m₀) e i
+
+  pub filing_over : es ≡ [] → {most : ℕ} → c ≤ most → Filed G d whole most m₀ c m
+  unfolding sound_files fresh marked
+  filing_over e few = let o = filing_skip e in record { sound = sym o.sound; count = omega (arith, o.count); marks = o.marks; few = few }
 
   -- the entries xs are taken, and fs left
-  module _ (xs fs : List Slot) (h : es ≡ xs ++ fs) {most : ℕ} {a : Files} {n : List ℕ} (f : FilesMet G d xs most m a n) where
-    pub filing_bad : a ≡ Bad → Bad ≡ r
-    filing_bad e = sym (join_bad G d m c xs fs (sym e ∙ f.answer)) ∙ ap (filed G d m c) (sym h) ∙ i.left
+  module _ (xs fs : List Slot) (h : es ≡ xs ++ fs) where
+    pub filing_bad : sound_files G d m xs ≡ false → sound_files G d m₀ whole ≡ false
+    filing_bad e = sym (filing_skip h).sound ∙ sound_join G d m xs fs ∙ ap (λ (b : Bool). b && sound_files G d (marked m (files_of G d xs)) fs) e
 
-    pub filing_next : (k : ℕ) → a ≡ Good k → Filing G d fs n (c + k) r m'
-    filing_next k e =
-        let marks-are : n ≡ marked m (files_of G d xs) = f.marks (good e) in
-        record {
-          left = ap (λ (y : List ℕ). filed G d y (c + k) fs) marks-are
-              ∙ sym (join_good G d m c xs fs k (sym e ∙ f.answer))
-              ∙ ap (filed G d m c) (sym h) ∙ i.left;
-          marks = ap (λ (y : List ℕ). marked y (files_of G d fs)) marks-are
-              ∙ sym (ap (marked m) (joined_join (file_chain G d) xs fs) ∙ marked_join m (files_of G d xs) (files_of G d fs))
-              ∙ ap (λ (y : List Slot). marked m (files_of G d y)) (sym h) ∙ i.marks;
-        }
+    pub filing_next : {most k : ℕ} {n : List ℕ} → Filed G d xs most m k n → Filing G d fs n (c + k) whole m₀
+    filing_next {k = k} {n = n} f =
+        let o = filing_skip h in
+        subst (λ (y : List ℕ). Filing G d fs y (c + k) whole m₀) (sym f.marks)
+        (record {
+          sound = ap (λ (b : Bool). b && sound_files G d (marked m (files_of G d xs)) fs) (sym f.sound) ∙ sym (sound_join G d m xs fs) ∙ o.sound;
+          count = omega (arith, f.count, o.count, ap sum (map-append length_of xs fs), sum_join (map length_of xs) (map length_of fs));
+          marks = sym (ap (marked m) (files_join G d m xs fs) ∙ marked_join m (files_of G d xs) (files_of G d fs)) ∙ o.marks;
+        })
 
--- ---- one file: s is its entry, and w what the walk along its chain answers
+-- ---- one file: s is its entry, and the walk along its chain starts at p
 
-module _ (G : Geometry) (d : Disc) (s : Slot) {m : List ℕ} {w : Followed} {m' : List ℕ} (f : Walked G d (first_of G s) m w m') where
-  abbrev sound_chain : Bool
-  sound_chain = good_chain G d s && fresh m (file_chain G d s)
+module _ (G : Geometry) (d : Disc) (s : Slot) (m : List ℕ) {p : Next} (first : p ≡ first_of G s) where
+  one : sound_files G d m (s ∷ []) ≡ good_chain G d s && fresh m (file_chain G d s)
+  unfolding sound_files
+  one = simp (Bool.and-true, append-nil)
 
-  one : {b : Bool} → sound_chain ≡ b → cond b (Good (length_of s)) Bad ≡ filed G d m 0 (s ∷ [])
-  unfolding filed
-  one {b} h =
-      let e : 0 + (length_of s + 0) ≡ length_of s = omega arith in
-      ap (λ (x : Bool). cond x (Good (length_of s)) Bad) (sym h) ∙ sym (simp (e, Bool.and-true, append-nil))
-
-  wrong : {most : ℕ} → sound_chain ≡ false → FilesMet G d (s ∷ []) most m Bad m'
-  wrong h = record { answer = one h; marks = λ z. absurd z; few = tt }
-
-  of_broken : {most : ℕ} → w ≡ Broken → FilesMet G d (s ∷ []) most m Bad m'
+  pub file_broken : sound_walk G d p m ≡ false → sound_files G d m (s ∷ []) ≡ false
   unfolding good_chain file_chain
-  of_broken e = wrong (by (chain_ends G d (first_of G s)) (fresh m (chain G d (first_of G s))) _ _ (walk_broken G d (first_of G s) m (sym e ∙ f.answer)))
+  file_broken e = one ∙ by (chain_ends G d (first_of G s)) (fresh m (chain G d (first_of G s))) _ _ (ap (λ (q : Next). sound_walk G d q m) (sym first) ∙ e)
     where
       by : (a b x y : Bool) → a && b ≡ false → a && x && y && b ≡ false
       by true true x y e = absurd (true≢false e)
       by true false x y e = and-false (x && y)
       by false b x y e = refl
 
-  module _ (k : ℕ) (l : SectorNo) (e : w ≡ Ended k l) where
-    walk_says : (chain_ends G d (first_of G s) && fresh m (chain G d (first_of G s)) ≡ true)
-        × (k ≡ length (chain G d (first_of G s))) × (l.0 ≡ last_or 0 (chain G d (first_of G s)))
-    walk_says = walk_ended G d (first_of G s) m k l (sym e ∙ f.answer)
+  module _ {c : Chain} {m' : List ℕ} (f : Ended G d p m c m') {x : ℕ} (length_is : x ≡ length_of s) where
+    ended : Ended G d (first_of G s) m c m'
+    ended = subst (λ (q : Next). Ended G d q m c m') first f
 
-    chain_is : sound_chain ≡ eqb k (length_of s) && at? (last_of G s) l.0
+    chain_is : sound_files G d m (s ∷ []) ≡ eqb c.count x && at? (last_of G s) c.last.0
     unfolding good_chain file_chain
     chain_is =
-        let h = and_true (chain_ends G d (first_of G s)) (fresh m (chain G d (first_of G s))) walk_says.0 in
-        simp (h.0, h.1, ← walk_says.1, ← walk_says.2, Bool.and-true)
+        let h = and_true (chain_ends G d (first_of G s)) (fresh m (chain G d (first_of G s))) ended.sound in
+        one ∙ simp (h.0, h.1, ← ended.count, ← ended.last, length_is, Bool.and-true)
 
-    of_length : {most : ℕ} → k ≢ length_of s → FilesMet G d (s ∷ []) most m Bad m'
-    of_length h = wrong (chain_is ∙ ap (λ (b : Bool). b && at? (last_of G s) l.0) (ne_eqb k (length_of s) h))
+    pub file_length : c.count ≢ x → sound_files G d m (s ∷ []) ≡ false
+    file_length h = chain_is ∙ ap (λ (b : Bool). b && at? (last_of G s) c.last.0) (ne_eqb c.count x h)
 
-    of_last : {most : ℕ} → at? (last_of G s) l.0 ≡ false → FilesMet G d (s ∷ []) most m Bad m'
-    of_last h = wrong (chain_is ∙ ap (λ (b : Bool). eqb k (length_of s) && b) h ∙ and-false (eqb k (length_of s)))
+    module _ {q : Next} (last_is : q ≡ last_of G s) {b : Bool} (at_last : b ≡ at? q c.last.0) where
+      says : sound_files G d m (s ∷ []) ≡ eqb c.count x && b
+      says = chain_is ∙ ap (λ (b : Bool). eqb c.count x && b) (ap (λ (y : Next). at? y c.last.0) (sym last_is) ∙ sym at_last)
 
-    of_good : {most : ℕ} → sectors G ≤ most → k ≡ length_of s → at? (last_of G s) l.0 ≡ true → FilesMet G d (s ∷ []) most m (Good k) m'
-    unfolding file_chain
-    of_good fits h p =
-        record {
-          answer = ap Good h ∙ one (chain_is ∙ ap₂ ◌&&◌ (eq-eqb k (length_of s) h) p);
-          marks = λ _. f.marks (ended e) ∙ ap (marked m) (sym (append-nil (chain G d (first_of G s))));
-          few = omega (arith, walk_says.1, met_few G d (sectors G) (first_of G s));
-        }
+      pub file_last : b ≡ false → sound_files G d m (s ∷ []) ≡ false
+      file_last h = says ∙ ap (λ (b : Bool). eqb c.count x && b) h ∙ and-false (eqb c.count x)
 
--- the same from what is read of the entry
-module _ (G : Geometry) (d : Disc) (s : Slot) {p : Next} (first : p ≡ first_of G s) {m : List ℕ} {w : Followed} {m' : List ℕ} (f : Walked G d p m w m') where
-  walked : Walked G d (first_of G s) m w m'
-  walked = subst (λ (x : Next). Walked G d x m w m') first f
-
-  pub file_broken : {most : ℕ} → w ≡ Broken → FilesMet G d (s ∷ []) most m Bad m'
-  file_broken e = of_broken G d s walked e
-
-  module _ (k : ℕ) (l : SectorNo) (e : w ≡ Ended k l) (x : ℕ) (length_is : x ≡ length_of s) where
-    pub file_length : {most : ℕ} → k ≢ x → FilesMet G d (s ∷ []) most m Bad m'
-    file_length k≢x = of_length G d s walked k l e (λ q. k≢x (q ∙ sym length_is))
-
-    module _ (k≡x : k ≡ x) {q : Next} (last_is : q ≡ last_of G s) {b : Bool} (at_last : b ≡ at? q l.0) where
-      says : at? (last_of G s) l.0 ≡ b
-      says = ap (λ (y : Next). at? y l.0) (sym last_is) ∙ sym at_last
-
-      pub file_last : {most : ℕ} → b ≡ false → FilesMet G d (s ∷ []) most m Bad m'
-      file_last b-is = of_last G d s walked k l e (says ∙ b-is)
-
-      pub file_good : {most : ℕ} → sectors G ≤ most → b ≡ true → FilesMet G d (s ∷ []) most m (Good k) m'
-      file_good fits b-is = of_good G d s walked k l e fits (k≡x ∙ length_is) (says ∙ b-is)
+      pub file_good : {most : ℕ} → sectors G ≤ most → c.count ≡ x → b ≡ true → Filed G d (s ∷ []) most m c.count m'
+      unfolding file_chain
+      file_good fits h e =
+          record {
+            sound = says ∙ ap₂ ◌&&◌ (eq-eqb c.count x h) e;
+            count = omega (arith, h, length_is);
+            marks = ended.marks ∙ ap (marked m) (sym (append-nil (chain G d (first_of G s))));
+            few = omega (arith, ended.count, met_few G d (sectors G) (first_of G s));
+          }

@@ -2,91 +2,70 @@
 #![tactic(auto)]
 
 ghost use Rattle.std.specs.Prelude.{◌≡◌, [], ◌∷◌, ◌<◌};
-ghost use Rattle.format.specs.Layout.{slots_each, in_use, slot_at, entries};
+ghost use Rattle.format.specs.Layout.{in_use, entries};
 ghost use Rattle.format.specs.Check.{at?};
 ghost use Rattle.geometry.specs.Meaning.{geo, sectors_of, Image};
 ghost use Rattle.disc.specs.Meaning.{meaning};
+ghost use Rattle.slots.specs.Meaning.{slot_of};
 ghost use Rattle.slots.specs.InOrder.{slots_from};
 ghost use Rattle.fsck_files.specs.Files.{FilesMet};
 
-use directory::Visit;
 use disc::Link;
-use fsck_chains::Followed;
 use geometry::{Geometry, SectorNo};
-
-// What a pass over files finds: each has the chain that its entry says, and they have so many sectors; or one has not.
-#[derive(Clone, Copy)]
-pub enum Files {
-    Good(usize),
-    Bad,
-}
+use slots::SlotNo;
 
 // Whether a link leads to sector n.
-fn leads_to(link: Link, n: SectorNo) -> bool
+fn leads_to(link: Link<SectorNo>, n: SectorNo) -> bool
     ensures { result ≡ at? (meaning link) n.0 }
 {
-    match link {
-        Link::To(m) => m.0 == n.0,
-        Link::End => false,
-        Link::Off => false,
-    }
+    matches!(link, Link::To(m) if m.0 == n.0)
 }
 
-// The file of the entry in slot i of sector n: its chain is walked to its end, whatever the entry's length.
-fn file_of(image: &[u8], g: Geometry, n: SectorNo, i: usize, marks: &mut [u8; 800]) -> Files
-    requires { Image g image.now × (n.0 < g.sectors) × (i < slots_each) }
+// The file of the entry in a slot, and how many sectors it has: its chain is walked to its end, whatever the entry's length.
+fn file_of(image: &[u8], g: Geometry, slot: SlotNo, marks: &mut [u8; 800]) -> Option<usize>
+    requires { Image g image.now × (slot.sector.0 < g.sectors) }
     ensures { let d = sectors_of g image.now in
-        FilesMet (geo g) d (slot_at d n.0 i ∷ []) 800 marks.old result marks.new }
+        FilesMet (geo g) d (slot_of d slot ∷ []) 800 marks.old result marks.new }
 {
-    let first = slots::first_step(image, g, n, i);
-    let Followed::Ended { count, last } = fsck_chains::follow(image, g, first, marks) else {
-        return Files::Bad;
-    };
-    if count != slots::length_of(image, g, n, i) as usize {
-        return Files::Bad;
+    let first = slots::first_step(image, g, slot);
+    let chain = fsck_chains::follow(image, g, first, marks)?;
+    let count = chain.count;
+    if count != slots::length_of(image, g, slot) as usize {
+        return None;
     }
-    if !leads_to(slots::last_of(image, g, n, i), last) {
-        return Files::Bad;
+    if !leads_to(slots::last_of(image, g, slot), chain.last) {
+        return None;
     }
-    Files::Good(count)
+    Some(count)
 }
 
 // The files of directory sector n.
-fn sector_files(image: &[u8], g: Geometry, n: SectorNo, marks: &mut [u8; 800]) -> Files
+fn sector_files(image: &[u8], g: Geometry, n: SectorNo, marks: &mut [u8; 800]) -> Option<usize>
     requires { Image g image.now × (n.0 < g.sectors) }
     ensures { let d = sectors_of g image.now in
         FilesMet (geo g) d (in_use (slots_from d n.0 0)) 12000 marks.old result marks.new }
 {
     let mut sum: usize = 0;
-    for i in 0..slots::SLOTS {
-        if slots::slot_free(image, g, n, i) {
+    for index in 0..slots::SLOTS {
+        let slot = SlotNo { sector: n, index };
+        if slots::slot_free(image, g, slot) {
             continue;
         }
-        let Files::Good(count) = file_of(image, g, n, i, marks) else {
-            return Files::Bad;
-        };
-        sum += count;
+        sum += file_of(image, g, slot, marks)?;
     }
-    Files::Good(sum)
+    Some(sum)
 }
 
-// The files of the directory.
-pub fn all_files(image: &[u8], g: Geometry, marks: &mut [u8; 800]) -> Files
+// The files of the directory: how many sectors they have, if each has the chain that its entry says.
+pub fn all_files(image: &[u8], g: Geometry, marks: &mut [u8; 800]) -> Option<usize>
     requires { Image g image.now }
     ensures { let d = sectors_of g image.now in
         FilesMet (geo g) d (entries (geo g) d) 9600000 marks.old result marks.new }
 {
     let mut sum: usize = 0;
-    let mut rest = directory::start(image, g);
-    loop {
-        let next = directory::advance(image, g, rest);
-        let Visit::Sector(n, after) = next else {
-            return Files::Good(sum);
-        };
-        let Files::Good(more) = sector_files(image, g, n, marks) else {
-            return Files::Bad;
-        };
+    for n in directory::sectors(image, g) {
+        let more = sector_files(image, g, n, marks)?;
         sum += more;
-        rest = after;
     }
+    Some(sum)
 }

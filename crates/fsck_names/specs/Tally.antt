@@ -1,6 +1,6 @@
 -- A table of buckets that counts names to 2, and what it tells: where a bucket has a count below 2, its name is the only one there.
 -- Assumes nothing.
-use Rattle.std.specs.Prelude.{◌≡◌, ◌≢◌, Bool, length, take, drop, eqb, ltb}
+use Rattle.std.specs.Prelude.{◌≡◌, ◌≢◌, Bool, length, eqb, ltb}
 use Rattle.std.proofs.Math.Path.{refl, sym, ap}
 use Rattle.std.proofs.Common.{◌∙◌, subst, arith, eq-eqb, ne_eqb, lt-ltb, le-ltb}
 use Prim.Native.Nat.{ℕ, zero, suc, ◌+◌, ◌*◌, ◌%◌, ◌≤◌, ◌<◌}
@@ -13,7 +13,6 @@ use Rattle.lists.specs.Lists.{byte, same, times}
 use Rattle.lists.specs.ListLaws.{times_none, times_join, times_here, times_past, same_true}
 use Rattle.format.specs.Geometry.{Disc}
 use Rattle.format.specs.Layout.{slots_each, Slot, free_slot, in_use, name_of, slot_at}
-use Rattle.byte_loops.specs.Laws.{part_byte}
 use Rattle.slots.specs.InOrder.{use_free, use_used, use_next, slots_from}
 use Rattle.fsck_names.specs.Differ.{named, apart, apart_later}
 
@@ -58,17 +57,12 @@ tallied size t (s ∷ es) = tallied size (bumped size t s) es
 
 -- ---- laws of the bucket
 
--- in the table of many buckets, of the nine bytes from byte a of an image on
-pub bucket_many : (image : List ℕ) (a size : ℕ) → a + 9 ≤ length image → size ≡ 16384
-    → spread (byte image a) (byte image (a + 1)) (byte image (a + 2)) (byte image (a + 3)) (byte image (a + 4)) (byte image (a + 5)) (byte image (a + 6))
-    (byte image (a + 7)) (byte image (a + 8)) % 16384
-    ≡ bucket_of size (take 9 (drop a image))
+-- in the table of many buckets
+pub bucket_many : (size : ℕ) (name : List ℕ) → size ≡ 16384
+    → spread (byte name 0) (byte name 1) (byte name 2) (byte name 3) (byte name 4) (byte name 5) (byte name 6) (byte name 7) (byte name 8) % 16384
+    ≡ bucket_of size name
 unfolding bucket_of
-bucket_many image a size fits e =
-    let at : (j : ℕ) → j < 9 → byte (take 9 (drop a image)) j ≡ byte image (a + j) = part_byte image a 9 fits in
-    let first : byte (take 9 (drop a image)) 0 ≡ byte image a = at 0 (omega arith) ∙ ap (byte image) (omega arith) in
-    simp (eq-eqb size 16384 e, first, at 1 (omega arith), at 2 (omega arith), at 3 (omega arith), at 4 (omega arith))
-    (simp (at 5 (omega arith), at 6 (omega arith), at 7 (omega arith), at 8 (omega arith)))
+bucket_many size name e = simp (eq-eqb size 16384 e)
 
 pub bucket_one : (size : ℕ) (name : List ℕ) → size ≢ 16384 → 0 ≡ bucket_of size name
 unfolding bucket_of

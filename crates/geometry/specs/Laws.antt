@@ -1,9 +1,10 @@
 -- Laws of Meaning: what is known of an image that was accepted, where its sectors start, and their bytes.
 -- Assumes nothing.
 use Rattle.std.proofs.Math.Path.{◌≡◌, refl, ap, ap₂}
-use Rattle.std.proofs.Common.{sym, ◌∙◌, subst, arith, lt_of_not-le, mul-pos, mul-le-mul, true≢false, eqb-true, leb-true, ltb-true, eq-eqb, ne_eqb, le-leb}
+use Rattle.std.proofs.Common.{sym, ◌∙◌, subst, arith, lt_of_not-le, mul-pos, mul-le-mul, true≢false, eqb-true, leb-true, ltb-true}
+use Rattle.std.proofs.Common.{eq-eqb, ne_eqb, le-leb, inl, inr}
 use Prim.Native.Nat.{ℕ, zero, suc, ◌+◌, ◌*◌, ◌/◌, ◌%◌, ◌^◌, ◌≤◌, ◌<◌}
-use Rattle.std.specs.Prelude.{◌≢◌, Bool, not, ◌&&◌, List, [], ◌∷◌, eqb, leb, ltb, length, get_or, drop}
+use Rattle.std.specs.Prelude.{◌≢◌, ◌⊎◌, Bool, not, ◌&&◌, List, [], ◌∷◌, eqb, leb, ltb, length, get_or, drop, Ok, Err}
 use Rattle.std.proofs.Math.Decide.{dec_le, ℕ_discrete}
 use Rattle.std.proofs.Math.Bool.{true, false}
 use Rattle.lists.specs.Lists.{byte, range, index_of}
@@ -20,7 +21,9 @@ use Rattle.format.proofs.GeometryLaws.{byte_cut, cut_full, flat_cut, place_below
 use Rattle.geometry.specs.Meaning.{kind_of, known, whole_tracks, packed, places_of, place_in, formed, form, geo, sized, sized_as, sectors_of, Valid, Image, Starts}
 use Rattle.geometry.specs.declared.Geometry.{Geometry}
 use Rattle.geometry.specs.declared.Stated.{Stated}
-use Rattle.geometry.specs.declared.Sized.TheVariants.{Of, Wrong}
+use Rattle.refusals.specs.declared.Refusal as code
+use Rattle.refusals.specs.declared.Refusal.TheVariants.{Size}
+use Rattle.refusals.specs.Meaning.{reason}
 
 -- ---- what a caller states
 
@@ -76,7 +79,7 @@ record Agrees (s : Stated) (n : ℕ) (g : Geometry) : Type 0 where
   placed : g.places ≡ places_of g.arrangement
   total : g.sectors ≡ format.sectors (geo g)
 
-agrees : (s : Stated) (n : ℕ) (g : Geometry) (t : Try Refusal format.Geometry) → geometry (kind_of s) n ≡ t → sized s t ≡ Of g → Agrees s n g
+agrees : (s : Stated) (n : ℕ) (g : Geometry) (t : Try Refusal format.Geometry) → geometry (kind_of s) n ≡ t → sized s t ≡ Ok g → Agrees s n g
 agrees s n g (refused e) p q = let z : ◌≡◌ {A = ℕ} 0 1 = cc in absurd (omega arith)
 agrees s n g (ok G) p q =
     let e : code ≡ g = cc in
@@ -144,7 +147,7 @@ module _ (g : Geometry) (image : List ℕ) (s : Stated) where
       }
 
   -- an image of an accepted length
-  pub opened : sized_as s (length image) ≡ Of g → Opened (kind_of s) g image
+  pub opened : sized_as s (length image) ≡ Ok g → Opened (kind_of s) g image
   unfolding sized_as
   opened e = by (known s) refl
     where
@@ -156,9 +159,9 @@ module _ (g : Geometry) (image : List ℕ) (s : Stated) where
           absurd (omega arith)
 
 -- a refused length
-pub geometry_wrong : (s : Stated) (n : ℕ) → sized_as s n ≡ Wrong → geometry (kind_of s) n ≡ refused SIZE
+pub geometry_wrong : (s : Stated) (n : ℕ) (e : code.Refusal) → sized_as s n ≡ Err e → geometry (kind_of s) n ≡ refused (reason e)
 unfolding sized_as geometry refuse◌if◌ ◌>>◌
-geometry_wrong s n e = by (tracked F (n / track)) (not (eqb (n % track) 0 && leb 1 (n / track) && leb (n / track) 80)) e
+geometry_wrong s n e is = by (tracked F (n / track)) (not (eqb (n % track) 0 && leb 1 (n / track) && leb (n / track) 80)) is
   where
     F : Format
     F = kind_of s
@@ -166,11 +169,11 @@ geometry_wrong s n e = by (tracked F (n / track)) (not (eqb (n % track) 0 && leb
     track : ℕ
     track = 256 * F.per_track
 
-    by : (G : format.Geometry) (b : Bool) → sized s (refuse SIZE if b >> ok G) ≡ Wrong → (refuse SIZE if b >> ok G) ≡ refused SIZE
-    by G true e = refl
-    by G false e = cc
+    by : (G : format.Geometry) (b : Bool) → sized s (refuse SIZE if b >> ok G) ≡ Err e → (refuse SIZE if b >> ok G) ≡ refused (reason e)
+    by G true is = let same : Size ≡ e = cc in ap (λ (e : code.Refusal). refused (reason e)) same
+    by G false is = cc
 
-pub sized_unknown : (s : Stated) (n : ℕ) → known s ≡ false → sized_as s n ≡ Wrong
+pub sized_unknown : (s : Stated) (n : ℕ) → known s ≡ false → sized_as s n ≡ Err Size
 unfolding sized_as
 sized_unknown s n e = ap (sized s) (ap (λ (F : Format). geometry F n) (known_not s e) ∙ no_disc n)
 
@@ -199,13 +202,17 @@ module _ (s : Stated) (e : known s ≡ true) (n T : ℕ) (is : T ≡ whole_track
     | no z ↦ geometry_rest (kind_of s) n z
   ]
 
-  pub sized_none : T < 1 → sized_as s n ≡ Wrong
+  pub sized_none : T < 1 → sized_as s n ≡ Err Size
   unfolding sized_as
   sized_none h = ap (sized s) (none h)
 
-  pub sized_many : 1 ≤ T → 80 < T → sized_as s n ≡ Wrong
+  pub sized_many : 1 ≤ T → 80 < T → sized_as s n ≡ Err Size
   unfolding sized_as
   sized_many k l = let w = some k in ap (sized s) (geometry_many (kind_of s) n w.0 (omega (arith, w.1)) (omega (arith, w.1)))
+
+  pub sized_out : (T < 1) ⊎ (80 < T) → sized_as s n ≡ Err Size
+  sized_out (inl h) = sized_none h
+  sized_out (inr h) = sized_many (omega arith) h
 
   pub sized_done : 1 ≤ T → T ≤ 80 → sized_as s n ≡ sized s (ok (record { tracks = T; per_track = s.sectors; order = (kind_of s).order }))
   unfolding sized_as

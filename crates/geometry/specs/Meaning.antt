@@ -1,14 +1,14 @@
 -- What the code's types mean in the definitions of the disc format, and the sectors of an image as contracts name them.
 -- Assumes nothing.
-use Rattle.std.specs.Prelude.{◌≡◌, ℕ, suc, ◌+◌, ◌*◌, ◌/◌, ◌%◌, ◌^◌, ◌≤◌, ◌<◌, Bool, ◌&&◌, cond, eqb, leb, List, [], ◌∷◌, length}
+use Rattle.std.specs.Prelude.{◌≡◌, ℕ, suc, ◌+◌, ◌*◌, ◌/◌, ◌%◌, ◌^◌, ◌≤◌, ◌<◌, Bool, ◌&&◌, cond, eqb, leb, List, [], ◌∷◌, length, Ok, Err}
+use Rattle.std.specs.declared.result.Result.{Result}
 use Rattle.format.specs.Refusals.{Try, Refusal, refused, ok}
 use Rattle.format.specs.Geometry as format
 use Rattle.format.specs.Geometry.{Format, stated, tracked, geometry, Disc, cut, sector, start_of}
 use Rattle.lists.specs.Lists.{index_of}
 use Rattle.geometry.specs.declared.Geometry.{Geometry}
 use Rattle.geometry.specs.declared.Stated.{Stated}
-use Rattle.geometry.specs.declared.Sized.{Sized}
-use Rattle.geometry.specs.declared.Sized.TheVariants.{Of, Wrong}
+use Rattle.refusals.specs.declared.Refusal as code
 
 -- the kind of disc that a caller states
 abbrev pub kind_of : Stated → Format
@@ -48,10 +48,10 @@ abbrev pub whole_tracks : (per_track length : ℕ) → ℕ
 whole_tracks k n = cond (eqb (n % (256 * k)) 0) (n / (256 * k)) 0
 
 -- the code's answer for the geometry of a length
-abbrev pub sized : Stated → Try Refusal format.Geometry → Sized
-sized s (refused e) = Wrong
+abbrev pub sized : Stated → Try Refusal format.Geometry → Result Geometry code.Refusal
+sized s (refused e) = Err code.TheVariants.Size
 sized s (ok G) =
-    Of (record {
+    Ok (record {
       tracks = G.tracks;
       per_track = G.per_track;
       sectors = format.sectors G;
@@ -60,7 +60,7 @@ sized s (ok G) =
     })
 
 -- the code's answer for what a caller states
-unfoldable pub sized_as : Stated → (length : ℕ) → Sized
+unfoldable pub sized_as : Stated → (length : ℕ) → Result Geometry code.Refusal
 sized_as s n = sized s (geometry (kind_of s) n)
 
 -- the sectors of an image

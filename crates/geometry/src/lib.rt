@@ -7,6 +7,8 @@ ghost use Rattle.std.specs.Prelude.{◌≡◌, ◌+◌, ◌*◌, ◌%◌, ◌≤
 ghost use Rattle.format.specs.Geometry.{on_disc, sector_number, sector};
 ghost use Rattle.geometry.specs.Meaning.{known, whole_tracks, geo, places_of, place_in, sized_as, Valid, Starts};
 
+use refusals::Refusal;
+
 // A sector's number on the disc: not a byte position, and not a pair of track and sector.
 #[derive(Clone, Copy)]
 pub struct SectorNo(pub usize);
@@ -29,17 +31,12 @@ pub struct Geometry {
     pub places: u64,
 }
 
-// The geometry of an image, or that there is no such disc.
-#[derive(Clone, Copy)]
-pub enum Sized {
-    Of(Geometry),
-    Wrong,
-}
-
 // Sectors of a track, and of a track of the early discs.
 const TEN: usize = 10;
 
 pub const NINE: usize = 9;
+
+const MOST_TRACKS: usize = 80;
 
 // The sectors of a track in the order in which the chain of a blank disc passes them.
 pub const ORDER: [u8; 10] = [1, 4, 7, 10, 3, 6, 9, 2, 5, 8];
@@ -52,10 +49,8 @@ fn moved_places() -> u64
     ensures { result ≡ places_of 1 }
 {
     let mut places: u64 = 0;
-    let mut i: usize = 0;
-    while i < 10 {
+    for i in 0..TEN {
         places += (i as u64) << (4 * ORDER[i] as u64 + 8);
-        i += 1;
     }
     places
 }
@@ -74,49 +69,49 @@ fn places_of(arrangement: u32) -> u64
 fn is_known(stated: Stated) -> bool
     ensures { result ≡ known stated }
 {
-    if stated.sectors == 10 {
-        return stated.arrangement <= 1;
+    match stated.sectors {
+        10 => stated.arrangement <= 1,
+        9 => stated.arrangement == 0,
+        _ => false,
     }
-    if stated.arrangement != 0 {
-        return false;
-    }
-    stated.sectors == 9
 }
 
-// The tracks in a length, or 0 where it is not one of whole tracks. By constants, since dividing by the number stated would cost as much
-// as the rest.
+// The tracks of K sectors in a length, or 0 where it is not one of whole tracks. K is a constant, since dividing by the number stated would
+// cost as much as the rest.
+fn tracks_of<const K: usize>(length: usize) -> usize
+    requires { (9 ≤ K) × (K ≤ 10) }
+    ensures { result ≡ whole_tracks K length }
+{
+    if length % (256 * K) != 0 {
+        return 0;
+    }
+    length / (256 * K)
+}
+
 fn tracks_in(length: usize, sectors: usize) -> usize
     requires { (9 ≤ sectors) × (sectors ≤ 10) }
     ensures { result ≡ whole_tracks sectors length }
 {
     if sectors == NINE {
-        if length % (256 * NINE) != 0 {
-            return 0;
-        }
-        return length / (256 * NINE);
+        return tracks_of::<NINE>(length);
     }
-    if length % (256 * TEN) != 0 {
-        return 0;
-    }
-    length / (256 * TEN)
+    tracks_of::<TEN>(length)
 }
 
-pub fn geometry_of(stated: Stated, length: usize) -> Sized
+// The geometry of an image, or the refusal 1 where there is no such disc.
+pub fn geometry_of(stated: Stated, length: usize) -> Result<Geometry, Refusal>
     ensures { result ≡ sized_as stated length }
 {
     if !is_known(stated) {
-        return Sized::Wrong;
+        return Err(Refusal::Size);
     }
     let per_track = stated.sectors as usize;
     let tracks = tracks_in(length, per_track);
-    if tracks < 1 {
-        return Sized::Wrong;
-    }
-    if 80 < tracks {
-        return Sized::Wrong;
+    if tracks < 1 || MOST_TRACKS < tracks {
+        return Err(Refusal::Size);
     }
     let arrangement = stated.arrangement;
-    Sized::Of(Geometry {
+    Ok(Geometry {
         tracks,
         per_track,
         sectors: per_track * tracks,

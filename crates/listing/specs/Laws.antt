@@ -1,8 +1,8 @@
 -- Laws of Meaning: entries and records slot by slot, and how many bytes they are.
 -- Assumes nothing.
-use Rattle.std.specs.Prelude.{◌≡◌, refl, ℕ, ◌+◌, ◌*◌, ◌/◌, ◌%◌, ◌≤◌, ◌<◌, true, false, drop}
+use Rattle.std.specs.Prelude.{◌≡◌, refl, ℕ, ◌+◌, ◌*◌, ◌≤◌, ◌<◌, true, false, drop}
 use Rattle.std.proofs.Math.Path.{ap}
-use Rattle.std.proofs.Common.{ap₂, ◌∙◌, arith, length-drop, length-take-le}
+use Rattle.std.proofs.Common.{sym, ◌∙◌, arith, length-drop, length-take-le}
 use Rattle.std.proofs.Math.Bool.{not}
 use mathlib.Core.List.{List, [], ◌∷◌, ◌++◌, map, append_assoc, append-nil}
 use Rattle.std.proofs.Math.ListN.{length, length-append}
@@ -13,14 +13,18 @@ use Rattle.lists.specs.Counts.{filter_parts}
 use Rattle.format.specs.Geometry.{Geometry, sectors, Disc, sector}
 use Rattle.format.proofs.GeometryLaws.{pointed_on, sector_full}
 use Rattle.format.proofs.ChainLaws.{met_few, met_below}
-use Rattle.format.specs.Layout.{disc_name_offset, free_count, used_count, disc_name_of, directory_pointer, directory, slots, entries, slots_each, Slot, free_slot, in_use, name_of, length_of, attribute_of, slot_at, slots_at, slots_of}
+use Rattle.format.specs.Layout.{disc_name_offset, free_count, used_count, disc_name_of, directory_pointer, directory, slots, entries, slots_each}
+use Rattle.format.specs.Layout.{Slot, free_slot, in_use, name_of, length_of, attribute_of, slot_at, slots_at, slots_of}
 use Rattle.format.proofs.SlotLaws.{in_use_join}
 use Rattle.format.specs.Effects.{listing}
 use Rattle.geometry.specs.Meaning.{geo, sectors_of, Image}
 use Rattle.geometry.specs.declared.Geometry as code
 use Rattle.slots.specs.Laws.{name_nine}
-use Rattle.slots.specs.InOrder.{slots_from, slots_next, slots_end, use_free, use_used}
-use Rattle.directory.specs.Laws.{slots_none, slots_cons}
+use Rattle.slots.specs.InOrder.{slots_from, slots_all, slots_next, use_free, use_used}
+use Rattle.directory.specs.Walk.{rest_of}
+use Rattle.directory.specs.Meaning.{entries_left}
+use Rattle.directory.specs.Laws.{slots_cons, left_met}
+use Rattle.directory.specs.declared.walk.Sectors.{Sectors}
 use Rattle.listing.specs.Meaning.{disc_record, entry_record, records_of}
 
 -- ---- entries and records, slot by slot
@@ -38,44 +42,31 @@ pub records_none : records_of [] ≡ []
 unfolding records_of in_use
 records_none = refl
 
-records_join : (xs ys : List Slot) → records_of (xs ++ ys) ≡ records_of xs ++ records_of ys
+pub records_join : (xs ys : List Slot) → records_of (xs ++ ys) ≡ records_of xs ++ records_of ys
 unfolding records_of
 records_join xs ys = ap (λ (ss : List Slot). joined (map entry_record ss)) (in_use_join xs ys) ∙ joined_join entry_record (in_use xs) (in_use ys)
 
 module _ (d : Disc) where
   -- the slots of a sector from slot i on
-  module _ (n i : ℕ) (h : i < slots_each) where
-    pub used_step : length (in_use (slots_from d n i)) ≡ length (in_use (slot_at d n i ∷ [])) + length (in_use (slots_from d n (i + 1)))
-    used_step =
-        ap (λ (ss : List Slot). length (in_use ss)) (slots_next d n i h)
-        ∙ ap length (in_use_join (slot_at d n i ∷ []) (slots_from d n (i + 1)))
-        ∙ length-append (in_use (slot_at d n i ∷ [])) (in_use (slots_from d n (i + 1)))
+  pub records_step : (n i : ℕ) → i < slots_each
+      → records_of (slots_from d n i) ≡ records_of (slot_at d n i ∷ []) ++ records_of (slots_from d n (i + 1))
+  records_step n i h = ap records_of (slots_next d n i h) ∙ records_join (slot_at d n i ∷ []) (slots_from d n (i + 1))
 
-    pub records_step : records_of (slots_from d n i) ≡ records_of (slot_at d n i ∷ []) ++ records_of (slots_from d n (i + 1))
-    records_step = ap records_of (slots_next d n i h) ∙ records_join (slot_at d n i ∷ []) (slots_from d n (i + 1))
+  -- the slots of a sector that a walk meets, and those of the sectors after it
+  pub records_met : (w v : Sectors) (n : ℕ) → rest_of w ≡ n ∷ rest_of v
+      → records_of (slots_of d (rest_of w)) ≡ records_of (slots_at d n) ++ records_of (slots_of d (rest_of v))
+  records_met w v n e =
+      ap (λ (ns : List ℕ). records_of (slots_of d ns)) e
+      ∙ ap records_of (slots_cons d n (rest_of v))
+      ∙ records_join (slots_at d n) (slots_of d (rest_of v))
 
-  pub used_end : (n i : ℕ) → slots_each ≤ i → length (in_use (slots_from d n i)) ≡ 0
-  unfolding in_use
-  used_end n i h = ap (λ (ss : List Slot). length (in_use ss)) (slots_end d n i h)
-
-  -- the slots of a sector, and of those after it
-  module _ (n : ℕ) (ns : List ℕ) where
-    pub used_cons : length (in_use (slots_of d (n ∷ ns))) ≡ length (in_use (slots_at d n)) + length (in_use (slots_of d ns))
-    used_cons =
-        ap (λ (ss : List Slot). length (in_use ss)) (slots_cons d n ns)
-        ∙ ap length (in_use_join (slots_at d n) (slots_of d ns))
-        ∙ length-append (in_use (slots_at d n)) (in_use (slots_of d ns))
-
-    pub records_cons : records_of (slots_of d (n ∷ ns)) ≡ records_of (slots_at d n) ++ records_of (slots_of d ns)
-    records_cons = ap records_of (slots_cons d n ns) ∙ records_join (slots_at d n) (slots_of d ns)
-
-  pub used_over : length (in_use (slots_of d [])) ≡ 0
-  unfolding in_use
-  used_over = ap (λ (ss : List Slot). length (in_use ss)) (slots_none d)
-
-pub entries_are : (G : Geometry) (d : Disc) → entries G d ≡ in_use (slots_of d (directory G d))
-unfolding entries slots
-entries_are G d = refl
+pub used_met : (g : code.Geometry) (image : List ℕ) (w v : Sectors) (n : ℕ) → rest_of w ≡ n ∷ rest_of v
+    → length (entries_left g image w) ≡ length (in_use (slots_at (sectors_of g image) n)) + length (entries_left g image v)
+used_met g image w v n e =
+    let d : Disc = sectors_of g image in
+    ap length (left_met g image w v n e)
+    ∙ length-append (in_use (slots_from d n 0)) (entries_left g image v)
+    ∙ ap (λ (ss : List Slot). length (in_use ss) + length (entries_left g image v)) (sym (slots_all d n))
 
 -- ---- how many
 
@@ -84,15 +75,18 @@ unfolding in_use slots_at
 used_few d n = omega (arith, filter_parts free_slot (slots_at d n))
 
 used_all : (d : Disc) (ns : List ℕ) → length (in_use (slots_of d ns)) ≤ slots_each * length ns
-used_all d [] = omega (arith, used_over d)
-used_all d (n ∷ ns) = omega (arith, used_cons d n ns, used_few d n, used_all d ns)
+unfolding in_use slots_of
+used_all d [] = omega arith
+used_all d (n ∷ ns) =
+    let both = ap length (in_use_join (slots_at d n) (slots_of d ns)) in
+    omega (arith, both, length-append (in_use (slots_at d n)) (in_use (slots_of d ns)), used_few d n, used_all d ns)
 
 pub entries_few : {g : code.Geometry} {image : List ℕ} → Image g image → length (entries (geo g) (sectors_of g image)) ≤ slots_each * g.sectors
-unfolding directory
+unfolding directory entries slots
 entries_few {g} {image} im =
     let d : Disc = sectors_of g image in
     let few = met_few (geo g) d (sectors (geo g)) (directory_pointer (geo g) d) in
-    omega (arith, im.valid.total, ap length (entries_are (geo g) d), used_all d (directory (geo g) d), few)
+    omega (arith, im.valid.total, used_all d (directory (geo g) d), few)
 
 -- ---- how many bytes
 
@@ -128,7 +122,8 @@ module _ {g : code.Geometry} {image : List ℕ} (im : Image g image) where
   pub disc_long : length (disc_record (sectors_of g image)) ≡ 14
   disc_long =
       let d : Disc = sectors_of g image in
-      omega (arith, disc_nine, length-append (disc_name_of d ++ word (free_count d)) (word (used_count d)), length-append (disc_name_of d) (word (free_count d)))
+      let counts = length-append (disc_name_of d ++ word (free_count d)) (word (used_count d)) in
+      omega (arith, disc_nine, counts, length-append (disc_name_of d) (word (free_count d)))
 
   pub entry_long : (n i : ℕ) → n < g.sectors → i < slots_each → length (entry_record (slot_at (sectors_of g image) n i)) ≡ 13
   entry_long n i on h = one_long (slot_at (sectors_of g image) n i) (name_nine im n i on h)
@@ -141,7 +136,3 @@ module _ {g : code.Geometry} {image : List ℕ} (im : Image g image) where
       ap length (listing_parts G d)
       ∙ length-append (disc_record d) (records_of (slots G d) ++ 0 ∷ [])
       ∙ omega (arith, disc_long, length-append (records_of (slots G d)) (0 ∷ []), all_long (all_filter (λ s. not (free_slot s)) names_nine))
-
--- the two bytes of a sixteen-bit number
-pub two_bytes : {low high m n : ℕ} → low ≡ m % 256 → high ≡ m / 256 % 256 → m ≡ n → ◌≡◌ {A = List ℕ} (low ∷ high ∷ []) (word n)
-two_bytes l h e = ap₂ (λ (x y : ℕ). x ∷ y ∷ []) l h ∙ ap word e

@@ -5,7 +5,7 @@ use Rattle.lists.specs.Lists.{word, joined}
 use Rattle.format.specs.Geometry.{Disc}
 use Rattle.format.specs.Layout.{free_count, used_count, disc_name_of, Slot, in_use, name_of, length_of, attribute_of}
 use Rattle.format.specs.Calls.{ListAnswer}
-use Rattle.answers.specs.declared.Filled.{Filled}
+use Rattle.answers.specs.declared.filled.Filled.{Filled}
 
 -- "kind 1, nine disc name bytes, free count, used count (low first)"
 abbrev pub disc_record : Disc → List ℕ

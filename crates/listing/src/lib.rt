@@ -4,27 +4,18 @@
 
 ghost use Rattle.std.specs.Prelude.{◌≡◌, [], ◌∷◌, ◌+◌, ◌*◌, ◌≤◌, ◌<◌, length};
 ghost use Rattle.lists.specs.Lists.{front};
-ghost use Rattle.format.specs.Layout.{slots_each, in_use, slot_at, slots_at, slots, entries};
+ghost use Rattle.format.specs.Layout.{slots_each, in_use, slots_at, slots, entries};
 ghost use Rattle.format.specs.Effects.{listing};
 ghost use Rattle.format.specs.Calls.{list_on, list_answer_by, after_list};
 ghost use Rattle.geometry.specs.Meaning.{kind_of, geo, sectors_of, Image};
+ghost use Rattle.slots.specs.Meaning.{slot_of};
+ghost use Rattle.answers.specs.Meaning.{filled};
 ghost use Rattle.records.specs.Storing.{Stored};
 ghost use Rattle.listing.specs.Meaning.{entry_record, records_of, disc_record, list_answer};
 
-use answers::Filled;
-use directory::Visit;
-use geometry::{Geometry, SectorNo, Sized, Stated};
-
-// 1 for a slot with an entry, 0 for a free one.
-fn count_slot(image: &[u8], g: Geometry, n: SectorNo, i: usize) -> usize
-    requires { Image g image.now × (n.0 < g.sectors) × (i < slots_each) }
-    ensures { result ≡ length (in_use (slot_at (sectors_of g image.now) n.0 i ∷ [])) }
-{
-    if slots::slot_free(image, g, n, i) {
-        return 0;
-    }
-    1
-}
+use geometry::{Geometry, SectorNo, Stated};
+use refusals::Refusal;
+use slots::SlotNo;
 
 // The entries of directory sector n.
 fn count_sector(image: &[u8], g: Geometry, n: SectorNo) -> usize
@@ -32,10 +23,11 @@ fn count_sector(image: &[u8], g: Geometry, n: SectorNo) -> usize
     ensures { result ≡ length (in_use (slots_at (sectors_of g image.now) n.0)) }
 {
     let mut count: usize = 0;
-    let mut i: usize = 0;
-    while i < slots::SLOTS {
-        count += count_slot(image, g, n, i);
-        i += 1;
+    for index in 0..slots::SLOTS {
+        let slot = SlotNo { sector: n, index };
+        if !slots::slot_free(image, g, slot) {
+            count += 1;
+        }
     }
     count
 }
@@ -46,15 +38,10 @@ fn count_entries(image: &[u8], g: Geometry) -> usize
     ensures { (result ≡ length (entries (geo g) (sectors_of g image.now))) × (result ≤ slots_each * g.sectors) }
 {
     let mut count: usize = 0;
-    let mut rest = directory::start(image, g);
-    loop {
-        let next = directory::advance(image, g, rest);
-        let Visit::Sector(n, after) = next else {
-            return count;
-        };
+    for n in directory::sectors(image, g) {
         count += count_sector(image, g, n);
-        rest = after;
     }
+    count
 }
 
 // The length of all records: 14 bytes for the disc, 13 for an entry, 1 at the end.
@@ -72,57 +59,35 @@ fn put_disc(image: &[u8], g: Geometry, buffer: &mut [u8]) -> usize
 {
     let start = geometry::start_of(g, system::SYSTEM) + system::DISC_NAME;
     let end = start + 9;
-    let free = system::free_count(image, g);
-    let used = system::used_count(image, g);
-    let counts = [
-        byte_loops::low(free),
-        byte_loops::high(free),
-        byte_loops::low(used),
-        byte_loops::high(used),
-    ];
+    let free = system::free_count(image, g).to_le_bytes();
+    let used = system::used_count(image, g).to_le_bytes();
+    let counts = [free[0], free[1], used[0], used[1]];
     records::put_record(buffer, 0, 1, &image[start..end], &counts)
 }
 
-// Stores the record of the entry in slot i of sector n.
-fn put_entry(
-    image: &[u8],
-    g: Geometry,
-    n: SectorNo,
-    i: usize,
-    buffer: &mut [u8],
-    at: usize,
-) -> usize
-    requires { Image g image.now × (n.0 < g.sectors) × (i < slots_each) × (at + 13 ≤ length buffer.old) }
-    ensures { Stored buffer.old at (entry_record (slot_at (sectors_of g image.now) n.0 i)) buffer.new result }
+// Stores the record of the entry in a slot.
+fn put_entry(image: &[u8], g: Geometry, slot: SlotNo, buffer: &mut [u8], at: usize) -> usize
+    requires { Image g image.now × (slot.sector.0 < g.sectors) × (at + 13 ≤ length buffer.old) }
+    ensures { Stored buffer.old at (entry_record (slot_of (sectors_of g image.now) slot)) buffer.new result }
 {
-    let start = geometry::start_of(g, n) + slots::slot_start(i);
+    let start = geometry::start_of(g, slot.sector) + slots::slot_start(slot.index);
     let end = start + 9;
-    let entry = slots::entry_of(image, g, n, i);
-    let numbers = [
-        byte_loops::low(entry.length),
-        byte_loops::high(entry.length),
-        entry.attribute,
-    ];
+    let entry = slots::entry_of(image, g, slot);
+    let size = entry.length.to_le_bytes();
+    let numbers = [size[0], size[1], entry.attribute];
     records::put_record(buffer, at, 2, &image[start..end], &numbers)
 }
 
-// Stores what slot i of sector n adds to the records: nothing where it is free.
-fn put_slot_record(
-    image: &[u8],
-    g: Geometry,
-    n: SectorNo,
-    i: usize,
-    buffer: &mut [u8],
-    at: usize,
-) -> usize
-    requires { Image g image.now × (n.0 < g.sectors) × (i < slots_each)
-        × (at + length (records_of (slot_at (sectors_of g image.now) n.0 i ∷ [])) ≤ length buffer.old) }
-    ensures { Stored buffer.old at (records_of (slot_at (sectors_of g image.now) n.0 i ∷ [])) buffer.new result }
+// Stores what a slot adds to the records: nothing where it is free.
+fn put_slot_record(image: &[u8], g: Geometry, slot: SlotNo, buffer: &mut [u8], at: usize) -> usize
+    requires { Image g image.now × (slot.sector.0 < g.sectors)
+        × (at + length (records_of (slot_of (sectors_of g image.now) slot ∷ [])) ≤ length buffer.old) }
+    ensures { Stored buffer.old at (records_of (slot_of (sectors_of g image.now) slot ∷ [])) buffer.new result }
 {
-    if slots::slot_free(image, g, n, i) {
+    if slots::slot_free(image, g, slot) {
         return at;
     }
-    put_entry(image, g, n, i, buffer, at)
+    put_entry(image, g, slot, buffer, at)
 }
 
 // Stores the records of directory sector n.
@@ -131,10 +96,9 @@ fn put_sector_records(image: &[u8], g: Geometry, n: SectorNo, buffer: &mut [u8],
     ensures { Stored buffer.old at (records_of (slots_at (sectors_of g image.now) n.0)) buffer.new result }
 {
     let mut next = at;
-    let mut i: usize = 0;
-    while i < slots::SLOTS {
-        next = put_slot_record(image, g, n, i, buffer, next);
-        i += 1;
+    for index in 0..slots::SLOTS {
+        let slot = SlotNo { sector: n, index };
+        next = put_slot_record(image, g, slot, buffer, next);
     }
     next
 }
@@ -145,15 +109,10 @@ fn put_entries(image: &[u8], g: Geometry, buffer: &mut [u8], at: usize) -> usize
     ensures { Stored buffer.old at (records_of (slots (geo g) (sectors_of g image.now))) buffer.new result }
 {
     let mut position = at;
-    let mut rest = directory::start(image, g);
-    loop {
-        let next = directory::advance(image, g, rest);
-        let Visit::Sector(n, after) = next else {
-            return position;
-        };
+    for n in directory::sectors(image, g) {
         position = put_sector_records(image, g, n, buffer, position);
-        rest = after;
     }
+    position
 }
 
 // Writes all records to the front of a buffer that they fit in.
@@ -166,31 +125,26 @@ fn put_listing(image: &[u8], g: Geometry, buffer: &mut [u8])
     buffer[last] = 0;
 }
 
-// The refusals 3 and 10, then the records.
-fn list_on(image: &[u8], g: Geometry, buffer: &mut [u8]) -> Filled
+// The refusals 3 and 10, then the records, whose length is the answer.
+fn list_on(image: &[u8], g: Geometry, buffer: &mut [u8]) -> Result<u32, Refusal>
     requires { Image g image.now }
     ensures { let b = buffer.old in
-        list_answer result buffer.new ≡ list_answer_by b (list_on (geo g) (sectors_of g image.now) (length b)) }
+        list_answer (filled result) buffer.new ≡ list_answer_by b (list_on (geo g) (sectors_of g image.now) (length b)) }
 {
     if !fsck::is_sound(image, g) {
-        return answers::refused(refusals::UNSOUND);
+        return Err(Refusal::Unsound);
     }
     let length = listing_length(image, g);
     if buffer.len() < length {
-        return answers::refused(refusals::SHORT);
+        return Err(Refusal::Short);
     }
     put_listing(image, g, buffer);
-    Filled {
-        number: refusals::DONE,
-        length: length as u32,
-    }
+    Ok(length as u32)
 }
 
-pub fn list(image: &[u8], stated: Stated, buffer: &mut [u8]) -> Filled
-    ensures { list_answer result buffer.new ≡ after_list (kind_of stated) image.now buffer.old }
+pub fn list(image: &[u8], stated: Stated, buffer: &mut [u8]) -> Result<u32, Refusal>
+    ensures { list_answer (filled result) buffer.new ≡ after_list (kind_of stated) image.now buffer.old }
 {
-    match geometry::geometry_of(stated, image.len()) {
-        Sized::Wrong => answers::refused(refusals::SIZE),
-        Sized::Of(g) => list_on(image, g, buffer),
-    }
+    let g = geometry::geometry_of(stated, image.len())?;
+    list_on(image, g, buffer)
 }

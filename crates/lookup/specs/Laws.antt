@@ -1,36 +1,28 @@
 -- Laws of the entry that a call names: its refusals one after the other.
 -- Assumes nothing.
-use Rattle.std.specs.Prelude.{◌≡◌, ℕ, Bool, not, List}
+use Rattle.std.specs.Prelude.{◌≡◌, ℕ, Bool, not, List, Some, None, Err}
 use Rattle.std.proofs.Math.Path.{refl, ap}
-use Rattle.std.proofs.Common.{sym, subst, ◌∙◌}
+use Rattle.std.proofs.Common.{sym, ◌∙◌}
 use Rattle.std.proofs.Math.Bool.{true, false}
 use Rattle.std.proofs.Math.Option.{Option, none, some}
+use Rattle.std.specs.declared.option.Option as found
+use Rattle.std.specs.Option.{ok_or}
 use borrow.Author.Tests.{not-false}
-use Rattle.format.specs.Refusals.{Try, Refusal, NAME, UNSOUND, ABSENT, number_of, refused, ok, ◌>>=◌, ◌>>◌, refuse◌if◌, ◌or_refuse◌}
-use Rattle.format.proofs.RefusalLaws.{refused_ok, ok_is, or_ok, if_ok, then_ok, refusal_number}
+use Rattle.format.specs.Refusals.{Try, Refusal, NAME, UNSOUND, ABSENT, refused, ok, ◌>>=◌, ◌>>◌, refuse◌if◌, ◌or_refuse◌}
+use Rattle.format.proofs.RefusalLaws.{refused_ok, ok_is, or_ok, if_ok, then_ok}
 use Rattle.format.specs.Geometry.{Geometry, Disc}
-use Rattle.format.specs.Names.{stored, legal_stored}
+use Rattle.format.specs.Names.{stored}
 use Rattle.format.specs.Layout.{Slot, find}
 use Rattle.format.specs.Check.{sound}
 use Rattle.geometry.specs.Meaning.{geo, sectors_of}
 use Rattle.geometry.specs.declared.Geometry as code
-use Rattle.answers.specs.Meaning.{Refuses}
-use Rattle.answers.specs.Laws.{refuses_is}
-use Rattle.lookup.specs.declared.Named.{Named}
-use Rattle.lookup.specs.declared.Judged.{Judged}
-use Rattle.lookup.specs.Meaning.{named_on, Names, slot_on, entry_on, Judges}
-
--- ---- the code's answer for a name
-
-pub names_ok : {r : Named} {t : Try Refusal (List ℕ)} → t ≡ ok r.name.bytes → legal_stored r.name.bytes ≡ true → r.number ≡ 0 → Names r t
-names_ok e legal zero = record { accepted = λ z. (e, legal); rejected = λ n. absurd (n zero) }
-
-pub names_refused : {r : Named} {t : Try Refusal (List ℕ)} (e : Refusal) → r.number ≡ number_of e → t ≡ refused e → Names r t
-names_refused {r} {t} e is t-is =
-    record {
-      accepted = λ z. absurd (refusal_number e (sym is ∙ z));
-      rejected = λ n. subst (Refuses t) (sym is) (refuses_is t e t-is);
-    }
+use Rattle.refusals.specs.declared.Refusal as refusal
+use Rattle.refusals.specs.declared.Refusal.TheVariants.{Absent}
+use Rattle.refusals.specs.Meaning.{reason}
+use Rattle.names.specs.Answer.{parsed, parsed_err, parsed_name}
+use Rattle.slots.specs.declared.slot_no.SlotNo.{SlotNo}
+use Rattle.directory.specs.Meaning.{Finds}
+use Rattle.lookup.specs.Meaning.{named_on, slot_on, entry_on, Judges}
 
 -- ---- the entry of a name
 
@@ -38,6 +30,9 @@ module _ (G : Geometry) (d : Disc) (name : List ℕ) where
   pub named_none : stored name ≡ none → named_on G d name ≡ refused NAME
   unfolding named_on ◌>>=◌ ◌or_refuse◌
   named_none e = rw e
+
+  pub named_err : (e : refusal.Refusal) → Err e ≡ parsed (stored name) → named_on G d name ≡ refused (reason e)
+  named_err e is = named_none (parsed_err _ e is) ∙ ap (λ (e : refusal.Refusal). refused (reason e)) (sym (parsed_name _ e is))
 
   module _ (nine : List ℕ) (e : stored name ≡ some nine) where
     pub named_unsound : sound G d ≡ false → named_on G d name ≡ refused UNSOUND
@@ -92,7 +87,9 @@ module _ (G : Geometry) (d : Disc) (nine : List ℕ) where
   unfolding slot_on ◌or_refuse◌
   slot_absent e = rw e
 
--- the answer that the code took apart
-pub judged_as : (g : code.Geometry) (image name : List ℕ) {r r' : Judged} → r ≡ r' → Judges g image r (entry_on (geo g) (sectors_of g image) name)
-    → Judges g image r' (entry_on (geo g) (sectors_of g image) name)
-judged_as g image name e h = subst (λ (r : Judged). Judges g image r (entry_on (geo g) (sectors_of g image) name)) e h
+-- the answer of a search
+module _ (g : code.Geometry) (image nine : List ℕ) where
+  pub judged : (r : found.Option SlotNo) → Finds g image r (find (geo g) (sectors_of g image) nine)
+      → Judges g image (ok_or r Absent) (slot_on (geo g) (sectors_of g image) nine)
+  judged (Some s) f = (slot_found _ _ _ _ (sym f.slot), f.within)
+  judged None f = slot_absent _ _ _ (sym f.slot)

@@ -56,13 +56,7 @@ pub fn is_page(page: u32) -> bool
 pub fn is_module(page: u32, start: u16, size: usize) -> bool
     ensures { result ≡ leb page 7 && leb 1 size && leb (start + size) 65536 }
 {
-    if !is_page(page) {
-        return false;
-    }
-    if size < 1 {
-        return false;
-    }
-    size <= 65536 - start as usize
+    is_page(page) && 1 <= size && size <= 65536 - start as usize
 }
 
 // How many sectors a module of so many bytes takes.
@@ -88,7 +82,14 @@ fn clear_from(image: &mut [u8], g: Geometry, n: SectorNo, k: usize)
 }
 
 // Writes the whole of sector n: its link, and after it the bytes of `head` and of `part`, then zeros.
-pub fn put_body(image: &mut [u8], g: Geometry, n: SectorNo, next: Link, head: &[u8], part: &[u8])
+pub fn put_body(
+    image: &mut [u8],
+    g: Geometry,
+    n: SectorNo,
+    next: Link<SectorNo>,
+    head: &[u8],
+    part: &[u8],
+)
     requires { Image g image.old × (n.0 < g.sectors) × Inside g next × (length head.now + length part.now ≤ 254) }
     ensures { sectors_of g image.new ≡ set (sectors_of g image.old) n.0
         (link_bytes (geo g) (meaning next) ++ padded 254 0 (head.now ++ part.now)) }
@@ -104,11 +105,7 @@ fn part_len(bytes: &[u8], at: usize, most: usize) -> usize
     requires { at ≤ length bytes.now }
     ensures { PartLength bytes.now at most result }
 {
-    let left = bytes.len() - at;
-    if left < most {
-        return left;
-    }
-    most
+    most.min(bytes.len() - at)
 }
 
 // A module's numbers; its bytes are lent beside them.
@@ -120,32 +117,47 @@ pub struct Numbers {
 }
 
 // Writes sector n as the first of a module.
-fn put_first(image: &mut [u8], g: Geometry, n: SectorNo, next: Link, m: Numbers, bytes: &[u8])
+fn put_first(
+    image: &mut [u8],
+    g: Geometry,
+    n: SectorNo,
+    next: Link<SectorNo>,
+    m: Numbers,
+    bytes: &[u8],
+)
     requires { Image g image.old × (n.0 < g.sectors) × Inside g next × IsModule (module_of m bytes.now) }
     ensures { sectors_of g image.new ≡ set (sectors_of g image.old) n.0
         (link_bytes (geo g) (meaning next) ++ first_body (module_of m bytes.now)) }
 {
-    let start = m.start as usize;
-    let transfer = m.transfer as usize;
-    let end = start + bytes.len() - 1;
+    let end = m.start as usize + bytes.len() - 1;
+    let starts = byte_loops::word_bytes(m.start as usize);
+    let ends = byte_loops::word_bytes(end);
+    let transfers = byte_loops::word_bytes(m.transfer as usize);
     let at: usize = 0;
     let size = part_len(bytes, at, FIRST_ROOM);
     let head = [
         MODULE,
         m.page,
-        (start % 256) as u8,
-        (start / 256 % 256) as u8,
-        (end % 256) as u8,
-        (end / 256 % 256) as u8,
-        (transfer % 256) as u8,
-        (transfer / 256 % 256) as u8,
+        starts[0],
+        starts[1],
+        ends[0],
+        ends[1],
+        transfers[0],
+        transfers[1],
         size as u8,
     ];
     put_body(image, g, n, next, &head, &bytes[at..size]);
 }
 
 // Writes sector n as a later one of a module, with its bytes from offset `at` on.
-fn put_later(image: &mut [u8], g: Geometry, n: SectorNo, next: Link, bytes: &[u8], at: usize)
+fn put_later(
+    image: &mut [u8],
+    g: Geometry,
+    n: SectorNo,
+    next: Link<SectorNo>,
+    bytes: &[u8],
+    at: usize,
+)
     requires { Image g image.old × (n.0 < g.sectors) × Inside g next × (at ≤ length bytes.now) }
     ensures { sectors_of g image.new ≡ set (sectors_of g image.old) n.0
         (link_bytes (geo g) (meaning next) ++ later_body (take 253 (drop at bytes.now))) }
@@ -161,7 +173,7 @@ pub fn put_nth(
     image: &mut [u8],
     g: Geometry,
     n: SectorNo,
-    next: Link,
+    next: Link<SectorNo>,
     m: Numbers,
     bytes: &[u8],
     j: usize,

@@ -1,12 +1,13 @@
 // Names as typed, and the nine bytes that they are stored as.
 #![tactic(auto)]
 
-ghost use Rattle.std.specs.Prelude.{◌≡◌, cond, ◌+◌, ◌≤◌, length};
+ghost use Rattle.std.specs.Prelude.{◌≡◌, cond, ◌+◌, ◌≤◌, ◌==◌, length, position};
 ghost use Rattle.std.proofs.Math.Option.{none, some};
-ghost use Rattle.std.proofs.Math.Seq.{paste};
 ghost use Rattle.lists.specs.Lists.{padded};
-ghost use Rattle.format.specs.Names.{letter, letters, before_dot, space, with_extension, stored, disc_name};
+ghost use Rattle.format.specs.Names.{letter, letters, dot, space, with_extension, stored, disc_name};
 ghost use Rattle.names.specs.Answer.{parsed};
+
+use refusals::Refusal;
 
 // A name as stored: padded with spaces, and without the dot.
 #[derive(Clone, Copy)]
@@ -14,68 +15,27 @@ pub struct Name {
     pub bytes: [u8; 9],
 }
 
-// Where the text is no name, ok is false and the bytes are zero.
-#[derive(Clone, Copy)]
-pub struct Parsed {
-    pub ok: bool,
-    pub name: Name,
-}
-
 // A-Z or 0-9.
+#[tactic(auto, using(std::proofs::lemmas::Bool::Decides::nat_tests), unfolding(format::specs::Names::letter))]
 pub fn is_letter(b: u8) -> bool
     ensures { result ≡ letter b }
 {
-    if b'A' <= b {
-        return b <= b'Z';
-    }
-    if b'0' <= b {
-        return b <= b'9';
-    }
-    false
+    matches!(b, b'A'..=b'Z' | b'0'..=b'9')
 }
 
 // Whether the text is 1 to most letters. The length decides first, so a long text is not read.
+#[tactic(auto, using(std::proofs::lemmas::Bool::Decides::nat_tests), unfolding(format::specs::Names::letters))]
 fn are_letters(text: &[u8], most: usize) -> bool
     ensures { result ≡ letters 1 most text.now }
 {
-    if text.len() == 0 {
-        return false;
-    }
-    if most < text.len() {
-        return false;
-    }
-    let mut i = 0;
-    while i < text.len() {
-        if !is_letter(text[i]) {
-            return false;
-        }
-        i += 1;
-    }
-    true
+    (1..=most).contains(&text.len()) && text.iter().all(|b| is_letter(*b))
 }
 
-// The index of the first dot, or the length where there is none.
-fn dot_index(typed: &[u8]) -> usize
-    ensures { result ≡ length (before_dot typed.now) }
+// The index of the first dot.
+fn dot_index(typed: &[u8]) -> Option<usize>
+    ensures { result ≡ position (λ b. b == dot) typed.now }
 {
-    let mut i = 0;
-    while i < typed.len() {
-        if typed[i] == b'.' {
-            return i;
-        }
-        i += 1;
-    }
-    i
-}
-
-// The nine bytes, with the text copied over those from index at on.
-fn copy_at(nine: [u8; 9], at: usize, text: &[u8]) -> [u8; 9]
-    requires { at + length text.now ≤ 9 }
-    ensures { result ≡ paste nine at text.now (length text.now) }
-{
-    let mut copied = nine;
-    byte_loops::copy(&mut copied, at, text);
-    copied
+    typed.iter().position(|b| *b == b'.')
 }
 
 // The text and spaces after it.
@@ -83,65 +43,52 @@ fn pad(text: &[u8]) -> [u8; 9]
     requires { length text.now ≤ 9 }
     ensures { result ≡ padded 9 space text.now }
 {
-    copy_at([b' '; 9], 0, text)
-}
-
-fn refused() -> Parsed
-    ensures { result ≡ parsed none }
-{
-    Parsed {
-        ok: false,
-        name: Name { bytes: [0; 9] },
-    }
+    let mut nine = [b' '; 9];
+    nine[..text.len()].copy_from_slice(text);
+    nine
 }
 
 // A text of 1 to most letters, padded to nine bytes.
-fn padded_letters(text: &[u8], most: usize) -> Parsed
+#[tactic(auto, using(crate::specs::Laws::letters_few))]
+fn padded_letters(text: &[u8], most: usize) -> Result<Name, Refusal>
     requires { most ≤ 9 }
     ensures { result ≡ parsed (cond (letters 1 most text.now) (some (padded 9 space text.now)) none) }
 {
     if !are_letters(text, most) {
-        return refused();
+        return Err(Refusal::Name);
     }
-    let bytes = pad(text);
-    Parsed {
-        ok: true,
-        name: Name { bytes },
-    }
+    Ok(Name { bytes: pad(text) })
 }
 
 // A name and what stands after its dot.
-fn with_extension(name: &[u8], extension: &[u8]) -> Parsed
+#[tactic(auto, using(crate::specs::Laws::extensions), unfolding(format::specs::Names::with_extension))]
+fn with_extension(name: &[u8], extension: &[u8]) -> Result<Name, Refusal>
     ensures { result ≡ parsed (with_extension name.now (some extension.now)) }
 {
-    if !are_letters(name, 6) {
-        return refused();
-    }
+    let mut stored = padded_letters(name, 6)?;
     if !are_letters(extension, 3) {
-        return refused();
+        return Err(Refusal::Name);
     }
-    let bytes = copy_at(pad(name), 6, extension);
-    Parsed {
-        ok: true,
-        name: Name { bytes },
-    }
+    stored.bytes[6..6 + extension.len()].copy_from_slice(extension);
+    Ok(stored)
 }
 
-pub fn file_name(typed: &[u8]) -> Parsed
+#[tactic(auto, using(crate::specs::Laws::parts, std::proofs::lemmas::List::take_rest))]
+pub fn file_name(typed: &[u8]) -> Result<Name, Refusal>
     ensures { result ≡ parsed (stored typed.now) }
 {
     // 6, the dot and 3: no dot is looked for in a longer text.
     if 10 < typed.len() {
-        return refused();
+        return Err(Refusal::Name);
     }
-    let dot = dot_index(typed);
-    if dot < typed.len() {
-        return with_extension(&typed[..dot], &typed[dot + 1..]);
+    match dot_index(typed) {
+        Some(dot) => with_extension(&typed[..dot], &typed[dot + 1..]),
+        None => padded_letters(typed, 6),
     }
-    padded_letters(typed, 6)
 }
 
-pub fn disc_name(typed: &[u8]) -> Parsed
+#[tactic(auto, unfolding(format::specs::Names::disc_name))]
+pub fn disc_name(typed: &[u8]) -> Result<Name, Refusal>
     ensures { result ≡ parsed (disc_name typed.now) }
 {
     padded_letters(typed, 9)

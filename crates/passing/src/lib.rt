@@ -40,10 +40,8 @@ pub fn stops(g: Geometry) -> [u16; 10]
     ensures { Stops g result }
 {
     let mut stops = [0; 10];
-    let mut i: usize = 0;
-    while i < g.per_track {
+    for i in 0..g.per_track {
         stops[i] = stop_at(g, i);
-        i += 1;
     }
     stops
 }

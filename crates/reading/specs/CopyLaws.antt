@@ -13,7 +13,7 @@ use Rattle.geometry.specs.Meaning.{sectors_of}
 use Rattle.geometry.specs.declared.Geometry.{Geometry}
 use Rattle.lists.specs.Stores.{sets_append}
 use Rattle.reading.specs.Plain.{later_bytes, size_of}
-use Rattle.reading.specs.Meaning.{bodies_of, file_bodies, bodies_after, File, Copied, header_of, bytes_in}
+use Rattle.reading.specs.Meaning.{bodies_of, file_bodies, bodies_after, File, Copied, bytes_in}
 use Rattle.reading.specs.PartLaws.{take_min}
 use Rattle.reading.specs.PlainLaws.{plain_guessed}
 use Rattle.reading.specs.FileLaws.{file_first}
@@ -61,7 +61,7 @@ copied_long {s} {k} {buffer} {buffer'} {at} {end} c = ap length c.stored ∙ len
 -- ---- the bytes of the module in a file
 
 pub file_bytes : {g : Geometry} {image : List ℕ} {first count : ℕ} → File g image first count
-    → (size : ℕ) → size ≡ (header_of (plain (file_bodies g image first count))).length
+    → (size : ℕ) → size ≡ length (bytes_in (plain (file_bodies g image first count)))
     → take size (drop 11 (sector (sectors_of g image) first) ++ later_bytes (bodies_after g image first (count - 1)))
     ≡ bytes_in (plain (file_bodies g image first count))
 unfolding guessed
@@ -73,7 +73,7 @@ file_bytes {g} {image} {first} {count} f size e = by (plain (file_bodies g image
     bs : List (List ℕ)
     bs = bodies_after g image first (count - 1)
 
-    by : (o : Option Module) → plain (file_bodies g image first count) ≡ o → size ≡ (header_of o).length → take size (drop 11 s ++ later_bytes bs) ≡ bytes_in o
+    by : (o : Option Module) → plain (file_bodies g image first count) ≡ o → size ≡ length (bytes_in o) → take size (drop 11 s ++ later_bytes bs) ≡ bytes_in o
     by none q e = ap (λ (k : ℕ). take k (drop 11 s ++ later_bytes bs)) e
     by (some m) q e =
         let held = sym (ap (λ (ns : List ℕ). plain (bodies_of (sectors_of g image) ns)) (file_first f)) ∙ q in

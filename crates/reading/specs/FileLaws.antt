@@ -1,6 +1,7 @@
 -- Laws of a file: links that lead on, its sectors one after the other, and the header by the tests of the code.
 -- Assumes nothing.
-use Rattle.std.specs.Prelude.{◌≡◌, ◌⊎◌, Bool, true, false, ◌&&◌, drop, eqb, leb}
+use Rattle.std.specs.Prelude.{◌≡◌, Bool, true, false, ◌&&◌, drop, eqb, leb, Some, None}
+use Rattle.std.specs.declared.option.Option as code
 use Rattle.std.proofs.Math.Path.{refl, ap}
 use Rattle.std.proofs.Common.{sym, ap₂, ◌∙◌, arith, length-drop, drop-drop, get_or-drop}
 use Prim.Native.Nat.{ℕ, ◌+◌, ◌-◌, ◌≤◌, ◌<◌}
@@ -22,15 +23,12 @@ use Rattle.format.specs.Modules.{end_of, sectors_for, guessed, plain}
 use Rattle.format.specs.Effects.{body, reading}
 use Rattle.format.specs.RuleLaws.{GoodChain}
 use Rattle.geometry.specs.Meaning.{geo, sectors_of, Image}
-use Rattle.disc.specs.Meaning.{meaning}
 use Rattle.geometry.specs.declared.Geometry.{Geometry}
-use Rattle.disc.specs.declared.Link.{Link}
-use Rattle.link_laws.specs.Links.{case_of, met_ended}
 use Rattle.reading.specs.Plain.{filled, later_filled, later_bytes, size_of, numbered, headed}
-use Rattle.reading.specs.Meaning.{leads, after, body_of, bodies_of, file_bodies, bodies_after, File, Followed, not_plain, header_of, numbers_in}
-use Rattle.reading.specs.PlainLaws.{Long, plain_is, headed_size, headed_end, headed_numbered, not_numbered, other_count, by_filled}
+use Rattle.reading.specs.Meaning.{leads, after, body_of, bodies_of, file_bodies, bodies_after, File, Followed, header_of, numbers_in}
+use Rattle.reading.specs.PlainLaws.{Long, plain_is, headed_size, headed_end, by_filled}
 use Rattle.reading.specs.SectorLaws.{body_small}
-use Rattle.reading.specs.declared.Header.{Header}
+use Rattle.reading.specs.declared.answer.Header.{Header}
 
 -- ---- a link that leads to a sector
 
@@ -105,32 +103,32 @@ none_follow G d n k e = ap (after G d n) e ∙ met_none G d (link_of G (sector d
 
 -- ---- the header in a first sector
 
--- its numbers, read one by one
-pub numbers_read : (s : List ℕ) {ok : Bool} {mark page start end transfer size : ℕ} → mark ≡ byte s 2 → page ≡ byte s 3
-    → start ≡ word_at s 4 → end ≡ word_at s 6 → transfer ≡ word_at s 8 → size ≡ end + 1 - start → ok ≡ eqb mark 0xFF && leb page 7 && leb start end
-    → ◌≡◌ {A = Header} (record { ok = ok; page = page; start = start; end = end; transfer = transfer; length = size }) (numbers_in (body s))
+-- the tests of its numbers, and the numbers, read one by one
+pub numbered_read : (s : List ℕ) {t : Bool} {mark page start end : ℕ} → mark ≡ byte s 2 → page ≡ byte s 3
+    → start ≡ word_at s 4 → end ≡ word_at s 6 → t ≡ eqb mark 0xFF && leb page 7 && leb start end → t ≡ numbered (body s)
 unfolding numbered
-numbers_read s m p a b t l o = simp (get_or-drop, o, l, m, p, a, b, t)
+numbered_read s m p a b t = simp (get_or-drop, t, m, p, a, b)
 
--- h are the numbers in the sector s: the answer after each test of `first_header`
-module _ (s : List ℕ) (count : ℕ) (h : Header) (e : h ≡ numbers_in (body s)) where
-  is_numbered : {t : Bool} → h.ok ≡ t → numbered (body s) ≡ t
-  is_numbered o = sym (ap (λ (h : Header). h.ok) e) ∙ o
+pub numbers_read : (s : List ℕ) {page start end transfer size : ℕ} → page ≡ byte s 3
+    → start ≡ word_at s 4 → end ≡ word_at s 6 → transfer ≡ word_at s 8 → size ≡ end + 1 - start
+    → ◌≡◌ {A = Header} (record { page = page; start = start; end = end; transfer = transfer; length = size }) (numbers_in (body s))
+numbers_read s p a b t l = simp (get_or-drop, l, p, a, b, t)
 
-  same_size : h.length ≡ size_of (body s)
-  same_size = ap (λ (h : Header). h.length) e
+-- what an optional header says of the test that it depends on
+pub none_where : (t : Bool) (h : Header) → ◌≡◌ {A = code.Option Header} None (cond t (Some h) None) → t ≡ false
+none_where true h e = absurd (cc)
+none_where false h e = refl
 
-  pub numbers_refused : h.ok ≡ false → cond (headed (body s) count) (numbers_in (body s)) not_plain ≡ not_plain
-  numbers_refused o = simp (not_numbered (body s) count (is_numbered o))
+pub some_where : (t : Bool) (h : Header) {n : Header} → ◌≡◌ {A = code.Option Header} (Some n) (cond t (Some h) None) → (t ≡ true) × (n ≡ h)
+some_where true h e = (refl, cc)
+some_where false h e = absurd (cc)
 
-  pub count_refused : h.ok ≡ true → (sectors_for h.length ≡ count → ⊥) → cond (headed (body s) count) (numbers_in (body s)) not_plain ≡ not_plain
-  count_refused o k = simp (other_count (body s) count (is_numbered o) (λ q. k (ap sectors_for same_size ∙ q)))
-
-  pub by_first_part : h.ok ≡ true → sectors_for h.length ≡ count
-      → cond (headed (body s) count) (numbers_in (body s)) not_plain ≡ cond (filled h.length (drop 10 s)) h not_plain
-  by_first_part o k =
-      let part : filled (size_of (body s)) (drop 8 (body s)) ≡ filled h.length (drop 10 s) = ap₂ filled (sym same_size) (drop-drop 8 2 s) in
-      ap₂ (λ (t : Bool) (n : Header). cond t n not_plain) (by_filled (body s) count (is_numbered o) (ap sectors_for (sym same_size) ∙ k) ∙ part) (sym e)
+-- h are the numbers in the sector s: after the tests of the numbers and of `count`, that of the last part decides
+pub by_first_part : (s : List ℕ) (count : ℕ) (h : Header) → h ≡ numbers_in (body s) → numbered (body s) ≡ true → sectors_for h.length ≡ count
+    → headed (body s) count ≡ filled h.length (drop 10 s)
+by_first_part s count h e n k =
+    let size : h.length ≡ size_of (body s) = ap (λ (h : Header). h.length) e in
+    by_filled (body s) count n (ap sectors_for (sym size) ∙ k) ∙ ap₂ filled (sym size) (drop-drop 8 2 s)
 
 -- ---- the header of a file
 
@@ -153,14 +151,14 @@ module _ {g : Geometry} {image : List ℕ} {first count : ℕ} (f : File g image
   -- the answer by the tests of the code
   header_is : header_of (plain (file_bodies g image first count))
       ≡ cond (headed (body_of g image first) count && later_filled (size_of (body_of g image first) - 245) (bodies_after g image first (count - 1)))
-      (numbers_in (body_of g image first))
-      not_plain
+      (Some (numbers_in (body_of g image first)))
+      None
   unfolding guessed
   header_is =
       ap (λ (ns : List ℕ). header_of (plain (bodies_of (sectors_of g image) ns))) (file_first f)
       ∙ ap header_of (plain_is b bs long later_long bytes)
       ∙ by (headed b (length (b ∷ bs)) && later_filled (size_of b - 245) bs) refl
-      ∙ ap (λ (n : ℕ). cond (headed b n && later_filled (size_of b - 245) bs) (numbers_in b) not_plain) file_long
+      ∙ ap (λ (n : ℕ). cond (headed b n && later_filled (size_of b - 245) bs) (Some (numbers_in b)) None) file_long
     where
       b : List ℕ
       b = body_of g image first
@@ -175,49 +173,30 @@ module _ {g : Geometry} {image : List ℕ} {first count : ℕ} (f : File g image
       bytes k h = body_small f.on_image small first f.is_on_disc k (omega arith)
 
       by : (t : Bool) → headed b (length (b ∷ bs)) && later_filled (size_of b - 245) bs ≡ t
-          → header_of (cond t (some (guessed (b ∷ bs))) none) ≡ cond t (numbers_in b) not_plain
+          → header_of (cond t (some (guessed (b ∷ bs))) none) ≡ cond t (Some (numbers_in b)) None
       by true e =
           let h = (and_true (headed b (length (b ∷ bs))) (later_filled (size_of b - 245) bs) e).0 in
-          let ok : true ≡ numbered b = sym (headed_numbered b (length (b ∷ bs)) h) in
           let end : end_of (guessed (b ∷ bs)) ≡ word_at b 4 = headed_end b bs long later_long bytes h in
           let size : length (guessed (b ∷ bs)).bytes ≡ size_of b = headed_size b bs long later_long bytes h in
-          λ i. record { ok = ok i; page = byte b 1; start = word_at b 2; end = end i; transfer = word_at b 6; length = size i }
+          λ i. Some (record { page = byte b 1; start = word_at b 2; end = end i; transfer = word_at b 6; length = size i })
       by false e = refl
 
-  -- h is the answer for the first sector: the answer after each test of `plain_header`
-  module _ (h : Header) (e : h ≡ cond (headed (body_of g image first) count) (numbers_in (body_of g image first)) not_plain) where
-    by_test : {t : Bool} → headed (body_of g image first) count ≡ t → h ≡ cond t (numbers_in (body_of g image first)) not_plain
-    by_test q = e ∙ ap (λ (t : Bool). cond t (numbers_in (body_of g image first)) not_plain) q
+  pub first_refused : headed (body_of g image first) count ≡ false → header_of (plain (file_bodies g image first count)) ≡ None
+  first_refused e = header_is ∙ simp e
 
-    is_headed : headed (body_of g image first) count ≡ h.ok
-    is_headed = sym (by (headed (body_of g image first) count) refl)
-      where
-        by : (t : Bool) → headed (body_of g image first) count ≡ t → h.ok ≡ t
-        by true q = ap (λ (n : Header). n.ok) (by_test q) ∙ headed_numbered _ count q
-        by false q = ap (λ (n : Header). n.ok) (by_test q)
-
-    pub first_refused : h.ok ≡ false → header_of (plain (file_bodies g image first count)) ≡ not_plain
-    first_refused o = header_is ∙ simp (is_headed ∙ o)
-
-    pub by_later_sectors : h.ok ≡ true
-        → header_of (plain (file_bodies g image first count)) ≡ cond (later_filled (h.length - 245) (bodies_after g image first (count - 1))) h not_plain
-    by_later_sectors o =
-        let b : List ℕ = body_of g image first in
-        let bs : List (List ℕ) = bodies_after g image first (count - 1) in
-        header_is
-        ∙ ap (λ (t : Bool). cond (t && later_filled (size_of b - 245) bs) (numbers_in b) not_plain) (is_headed ∙ o)
-        ∙ ap (λ (n : Header). cond (later_filled (n.length - 245) bs) n not_plain) (sym (by_test (is_headed ∙ o)))
+  -- h are the numbers in the first sector
+  pub by_later_sectors : (h : Header) → headed (body_of g image first) count ≡ true → h ≡ numbers_in (body_of g image first)
+      → header_of (plain (file_bodies g image first count)) ≡ cond (later_filled (h.length - 245) (bodies_after g image first (count - 1))) (Some h) None
+  by_later_sectors h t e =
+      let b : List ℕ = body_of g image first in
+      let bs : List (List ℕ) = bodies_after g image first (count - 1) in
+      header_is
+      ∙ ap (λ (t : Bool). cond (t && later_filled (size_of b - 245) bs) (Some (numbers_in b)) None) t
+      ∙ ap (λ (n : Header). cond (later_filled (n.length - 245) bs) (Some n) None) (sym e)
 
 -- ---- the file of an entry on a sound disc
 
 module _ {g : Geometry} {image : List ℕ} {s : Slot} (i : Image g image) (file : GoodChain (geo g) (sectors_of g image) s) (some_sector : 1 ≤ length_of s) where
-  pub entry_leads : (l : Link) → meaning l ≡ first_of (geo g) s → (case_of l ≡ 0) ⊎ (case_of l ≡ 2) → ⊥
-  unfolding file_chain
-  entry_leads l e h =
-      let N : ℕ = format.sectors (geo g) in
-      let none : length (met (geo g) (sectors_of g image) N (meaning l)) ≡ 0 = ap length (met_ended (geo g) (sectors_of g image) N l h) in
-      omega (arith, rw e at none, file.as_long)
-
   -- its first sector and its length are what the functions of this crate ask for, and its sectors are the whole chain
   module _ (first count : ℕ) (starts : first_of (geo g) s ≡ go first) (on : first < g.sectors) (long : count ≡ length_of s) where
     whole_chain : met (geo g) (sectors_of g image) count (go first) ≡ file_chain (geo g) (sectors_of g image) s

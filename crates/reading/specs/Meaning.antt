@@ -1,6 +1,7 @@
 -- What the code's answer means, and the sectors of a file as contracts name them.
 -- Assumes nothing.
-use Rattle.std.specs.Prelude.{◌≡◌, ℕ, ◌+◌, ◌-◌, ◌≤◌, ◌<◌, Bool, true, false, List, [], map, length, take, drop}
+use Rattle.std.specs.Prelude.{◌≡◌, ℕ, ◌+◌, ◌-◌, ◌≤◌, ◌<◌, Bool, true, false, List, [], map, length, take, drop, Some, None}
+use Rattle.std.specs.declared.option.Option as code
 use Rattle.std.proofs.Math.Option.{Option, none, some}
 use Rattle.std.proofs.lemmas.List.Edits.{sets}
 use Rattle.lists.specs.Lists.{byte, word_at}
@@ -11,19 +12,15 @@ use Rattle.format.specs.Modules.{Module, end_of}
 use Rattle.format.specs.Effects.{body}
 use Rattle.geometry.specs.Meaning.{geo, sectors_of, Image}
 use Rattle.geometry.specs.declared.Geometry.{Geometry}
-use Rattle.reading.specs.Plain.{size_of, numbered}
-use Rattle.reading.specs.declared.Header.{Header}
+use Rattle.reading.specs.Plain.{size_of}
+use Rattle.reading.specs.declared.answer.Header.{Header}
 
 -- ---- the answer
 
--- the code's answer where sectors hold no module
-abbrev pub not_plain : Header
-not_plain = record { ok = false; page = 0; start = 0; end = 0; transfer = 0; length = 0 }
-
 -- the code's answer for what sectors hold
-abbrev pub header_of : Option Module → Header
-header_of none = not_plain
-header_of (some m) = record { ok = true; page = m.page; start = m.start; end = end_of m; transfer = m.transfer; length = length m.bytes }
+abbrev pub header_of : Option Module → code.Option Header
+header_of none = None
+header_of (some m) = Some (record { page = m.page; start = m.start; end = end_of m; transfer = m.transfer; length = length m.bytes })
 
 -- the bytes of the module that sectors hold, or none
 abbrev pub bytes_in : Option Module → List ℕ
@@ -32,7 +29,7 @@ bytes_in (some m) = m.bytes
 
 -- the numbers in the body of a first sector
 abbrev pub numbers_in : List ℕ → Header
-numbers_in b = record { ok = numbered b; page = byte b 1; start = word_at b 2; end = word_at b 4; transfer = word_at b 6; length = size_of b }
+numbers_in b = record { page = byte b 1; start = word_at b 2; end = word_at b 4; transfer = word_at b 6; length = size_of b }
 
 -- ---- the sectors
 

@@ -120,12 +120,6 @@ true_headed b count h = simp (eq-eqb _ _ h.marked, le-leb _ _ h.pages, le-leb _ 
 
 -- the cases of `headed`
 module _ (b : List ℕ) (count : ℕ) where
-  pub headed_numbered : headed b count ≡ true → numbered b ≡ true
-  unfolding headed
-  headed_numbered e =
-      let t = eqb (sectors_for (size_of b)) count in
-      (and_true (numbered b) t (and_true (numbered b && t) (filled (size_of b) (drop 8 b)) e).0).0
-
   pub not_numbered : numbered b ≡ false → headed b count ≡ false
   unfolding headed
   not_numbered n = simp n

@@ -1,61 +1,28 @@
 // Reading a load module back: whether a file's sectors hold one, its numbers, and its bytes; and read, the public call.
 #![tactic(auto)]
 
-ghost use Rattle.std.specs.Prelude.{◌≡◌, min, ◌+◌, ◌-◌, ◌≤◌, ◌<◌, true, ◌&&◌, cond, length, drop, eqb, leb};
+ghost use Rattle.std.specs.Prelude.{◌≡◌, ◌+◌, ◌-◌, ◌≤◌, ◌<◌, true, ◌&&◌, cond, length, drop, eqb, leb};
 ghost use Rattle.lists.specs.Lists.{all, front};
 ghost use Rattle.format.specs.Geometry.{go, sector};
-ghost use Rattle.format.specs.Layout.{slots_each, length_of, slot_at, link_of};
+ghost use Rattle.format.specs.Layout.{length_of, link_of};
 ghost use Rattle.format.specs.Modules.{plain};
 ghost use Rattle.format.specs.Effects.{reading};
 ghost use Rattle.format.specs.Calls.{read_on, read_answer_by, after_read};
 ghost use Rattle.format.specs.RuleLaws.{GoodChain};
 ghost use Rattle.geometry.specs.Meaning.{kind_of, geo, sectors_of, Image};
 ghost use Rattle.disc.specs.Meaning.{Lies};
-ghost use Rattle.reading.specs.Plain.{filled, headed, later_filled};
-ghost use Rattle.reading.specs.Meaning.{not_plain, header_of, bytes_in, numbers_in, leads, body_of, file_bodies, bodies_after, File, Copied};
-ghost use Rattle.reading.specs.Answer.{read_answer, refusal, file_on};
+ghost use Rattle.slots.specs.Meaning.{slot_of};
+ghost use Rattle.reading.specs.Plain.{filled, numbered, headed, later_filled};
+ghost use Rattle.reading.specs.Meaning.{header_of, bytes_in, numbers_in, leads, body_of, file_bodies, bodies_after, File, Copied};
+ghost use Rattle.reading.specs.Answer.{reading_of, read_answer, file_on};
 
+mod answer;
+
+pub use answer::{Header, Reading};
 use disc::{Link, Sector};
-use geometry::{Geometry, SectorNo, Sized, Stated};
-use lookup::Judged;
-
-// What is read of a module but its bytes. Where the sectors hold none, `ok` is false and the numbers are 0.
-#[derive(Clone, Copy)]
-struct Header {
-    ok: bool,
-    page: u8,
-    start: u16,
-    end: u16,
-    transfer: u16,
-    length: u32,
-}
-
-const NOT_PLAIN: Header = Header {
-    ok: false,
-    page: 0,
-    start: 0,
-    end: 0,
-    transfer: 0,
-    length: 0,
-};
-
-fn min(a: usize, b: usize) -> usize
-    ensures { result ≡ min a b }
-{
-    if a < b {
-        return a;
-    }
-    b
-}
-
-fn saturating_sub(a: usize, b: usize) -> usize
-    ensures { result ≡ a - b }
-{
-    if a < b {
-        return 0;
-    }
-    a - b
-}
+use geometry::{Geometry, SectorNo, Stated};
+use refusals::Refusal;
+use slots::SlotNo;
 
 // Whether the bytes of sector s from offset k on are zero.
 fn zero_from(image: &[u8], g: Geometry, s: Sector, k: usize) -> bool
@@ -71,7 +38,7 @@ fn filled_at(image: &[u8], g: Geometry, s: Sector, k: usize, left: usize) -> boo
     requires { Image g image.now × Lies g s × (k < 256) }
     ensures { result ≡ filled left (drop k (sector (sectors_of g image.now) s.number.0)) }
 {
-    let size = min(left, 255 - k);
+    let size = left.min(255 - k);
     if disc::byte_in(image, g, s, k) as usize != size {
         return false;
     }
@@ -82,54 +49,47 @@ fn filled_at(image: &[u8], g: Geometry, s: Sector, k: usize, left: usize) -> boo
 fn numbers_ok(mark: u8, page: u8, start: u16, end: u16) -> bool
     ensures { result ≡ eqb mark 0xFF && leb page 7 && leb start end }
 {
-    if mark != modules::MODULE {
-        return false;
-    }
-    if !modules::is_page(page as u32) {
-        return false;
-    }
-    start <= end
+    mark == modules::MODULE && modules::is_page(page as u32) && start <= end
 }
 
-// The numbers that sector n has if it is the first of a module; `ok` says whether they can be those of one.
-fn numbers_of(image: &[u8], g: Geometry, n: SectorNo) -> Header
+// The numbers in sector n, if they can be those of the first sector of a module.
+fn numbers_of(image: &[u8], g: Geometry, n: SectorNo) -> Option<Header>
     requires { Image g image.now × (n.0 < g.sectors) }
-    ensures { result ≡ numbers_in (body_of g image.now n.0) }
+    ensures { let b = body_of g image.now n.0 in
+        result ≡ cond (numbered b) (Some (numbers_in b)) None }
 {
     let mark = disc::byte_of(image, g, n, modules::BEGINNING);
     let page = disc::byte_of(image, g, n, modules::PAGE);
     let start = disc::word_of(image, g, n, modules::START);
     let end = disc::word_of(image, g, n, modules::END);
-    let transfer = disc::word_of(image, g, n, modules::TRANSFER);
-    let length = saturating_sub(end as usize + 1, start as usize);
-    Header {
-        ok: numbers_ok(mark, page, start, end),
+    if !numbers_ok(mark, page, start, end) {
+        return None;
+    }
+    let length = (end as usize + 1).saturating_sub(start as usize);
+    Some(Header {
         page,
         start,
         end,
-        transfer,
+        transfer: disc::word_of(image, g, n, modules::TRANSFER),
         length: length as u32,
-    }
+    })
 }
 
 // The header in sector s, if it is the first of a module that takes `count` sectors.
-fn first_header(image: &[u8], g: Geometry, s: Sector, count: usize) -> Header
+fn first_header(image: &[u8], g: Geometry, s: Sector, count: usize) -> Option<Header>
     requires { Image g image.now × Lies g s }
     ensures { let b = body_of g image.now s.number.0 in
-        result ≡ cond (headed b count) (numbers_in b) not_plain }
+        result ≡ cond (headed b count) (Some (numbers_in b)) None }
 {
-    let header = numbers_of(image, g, s.number);
+    let header = numbers_of(image, g, s.number)?;
     let length = header.length as usize;
-    if !header.ok {
-        return NOT_PLAIN;
-    }
     if modules::sectors_for(length) != count {
-        return NOT_PLAIN;
+        return None;
     }
     if !filled_at(image, g, s, modules::FIRST_LENGTH, length) {
-        return NOT_PLAIN;
+        return None;
     }
-    header
+    Some(header)
 }
 
 // The sector that the link of sector s leads to. The caller knows that it leads to one, so the link is not tested.
@@ -147,33 +107,28 @@ fn later_filled(image: &[u8], g: Geometry, first: Sector, count: usize, length: 
     requires { File g image.now first.number.0 count × Lies g first }
     ensures { result ≡ later_filled (length - 245) (bodies_after g image.now first.number.0 (count - 1)) }
 {
-    let mut left = saturating_sub(length, modules::FIRST_ROOM);
+    let mut left = length.saturating_sub(modules::FIRST_ROOM);
     let mut s = first;
-    let mut j: usize = 1;
-    while j < count {
+    for j in 1..count {
         s = next_of(image, g, s);
         if !filled_at(image, g, s, modules::LATER_LENGTH, left) {
             return false;
         }
-        left = saturating_sub(left, modules::LATER_ROOM);
-        j += 1;
+        left = left.saturating_sub(modules::LATER_ROOM);
     }
     true
 }
 
 // The header of the module in a file of `count` sectors from `first` on.
-fn plain_header(image: &[u8], g: Geometry, first: Sector, count: usize) -> Header
+fn plain_header(image: &[u8], g: Geometry, first: Sector, count: usize) -> Option<Header>
     requires { File g image.now first.number.0 count × Lies g first }
     ensures { result ≡ header_of (plain (file_bodies g image.now first.number.0 count)) }
 {
-    let header = first_header(image, g, first, count);
-    if !header.ok {
-        return NOT_PLAIN;
-    }
+    let header = first_header(image, g, first, count)?;
     if !later_filled(image, g, first, count, header.length as usize) {
-        return NOT_PLAIN;
+        return None;
     }
-    header
+    Some(header)
 }
 
 // Copies the bytes of sector s from offset k on into the buffer from position `at` on, up to `end`. Gives the position after them.
@@ -190,7 +145,7 @@ fn copy_part(
     ensures { Copied (sector (sectors_of g image.now) s.number.0) k buffer.old buffer.new at end result }
 {
     let start = s.start + k;
-    let size = min(end - at, 256 - k);
+    let size = (end - at).min(256 - k);
     let stop = start + size;
     byte_loops::copy(buffer, at, &image[start..stop]);
     at + size
@@ -233,41 +188,14 @@ fn copy_module(
     buffer: &mut [u8],
 )
     requires { File g image.now first.number.0 count
-        × (size ≡ (header_of (plain (file_bodies g image.now first.number.0 count))).length) × (size ≤ length buffer.old) × Lies g first }
+        × (size ≡ length (bytes_in (plain (file_bodies g image.now first.number.0 count)))) × (size ≤ length buffer.old) × Lies g first }
     ensures { buffer.new ≡ front (bytes_in (plain (file_bodies g image.now first.number.0 count))) buffer.old }
 {
     let mut at = copy_part(image, g, first, modules::FIRST_BYTES, buffer, 0, size);
     let mut s = first;
-    let mut j: usize = 1;
-    while j < count {
+    for j in 1..count {
         s = next_of(image, g, s);
         at = copy_later(image, g, s, buffer, at, size);
-        j += 1;
-    }
-}
-
-// The answer of read. The layout is C's, since the call is exported. With a refusal every other number is 0.
-#[repr(C)]
-#[derive(Clone, Copy)]
-pub struct Reading {
-    pub number: u32,
-    pub page: u32,
-    pub start: u32,
-    pub end: u32,
-    pub transfer: u32,
-    pub length: u32,
-}
-
-fn refused(number: u32) -> Reading
-    ensures { result ≡ refusal number }
-{
-    Reading {
-        number,
-        page: 0,
-        start: 0,
-        end: 0,
-        transfer: 0,
-        length: 0,
     }
 }
 
@@ -278,64 +206,77 @@ fn read_module(
     first: SectorNo,
     count: usize,
     buffer: &mut [u8],
-) -> Reading
+) -> Result<Header, Refusal>
     requires { File g image.now first.0 count }
     ensures { let b = buffer.old in
-        read_answer result buffer.new ≡ read_answer_by b (file_on (plain (file_bodies g image.now first.0 count)) (length b)) }
+        read_answer (reading_of result) buffer.new ≡ read_answer_by b (file_on (plain (file_bodies g image.now first.0 count)) (length b)) }
 {
     let at = disc::sector_of(g, first);
-    let header = plain_header(image, g, at, count);
-    if !header.ok {
-        return refused(refusals::NOT_PLAIN);
-    }
+    let Some(header) = plain_header(image, g, at, count) else {
+        return Err(Refusal::NotPlain);
+    };
     let size = header.length as usize;
     if buffer.len() < size {
-        return refused(refusals::SHORT);
+        return Err(Refusal::Short);
     }
     copy_module(image, g, at, count, size, buffer);
-    Reading {
-        number: refusals::DONE,
-        page: header.page as u32,
-        start: header.start as u32,
-        end: header.end as u32,
-        transfer: header.transfer as u32,
-        length: header.length,
-    }
+    Ok(header)
 }
 
-// The same for the file of the entry in slot i of sector n. The caller knows that the disc is sound, so the answer 3 never occurs.
-fn read_file(image: &[u8], g: Geometry, n: SectorNo, i: usize, buffer: &mut [u8]) -> Reading
+// The same for the file of the entry in a slot. The caller knows that the disc is sound, so the entry leads to a sector.
+fn read_file(image: &[u8], g: Geometry, slot: SlotNo, buffer: &mut [u8]) -> Result<Header, Refusal>
     requires { let d = sectors_of g image.now in
-        let s = slot_at d n.0 i in
-        Image g image.now × (n.0 < g.sectors) × (i < slots_each) × GoodChain (geo g) d s × (1 ≤ length_of s) }
+        let s = slot_of d slot in
+        Image g image.now × (slot.sector.0 < g.sectors) × GoodChain (geo g) d s × (1 ≤ length_of s) }
     ensures { let d = sectors_of g image.now in
         let b = buffer.old in
-        read_answer result buffer.new ≡ read_answer_by b (file_on (reading (geo g) d (slot_at d n.0 i)) (length b)) }
+        read_answer (reading_of result) buffer.new ≡ read_answer_by b (file_on (reading (geo g) d (slot_of d slot)) (length b)) }
 {
-    let entry = slots::entry_of(image, g, n, i);
-    let start = entry.first;
-    let Link::To(first) = start else {
-        return refused(refusals::UNSOUND);
+    let entry = slots::entry_of(image, g, slot);
+    let Link::To(first) = entry.first else {
+        unreachable!();
     };
     read_module(image, g, first, entry.length as usize, buffer)
 }
 
-fn read_on(image: &[u8], g: Geometry, name: &[u8], buffer: &mut [u8]) -> Reading
+fn read_on(image: &[u8], g: Geometry, name: &[u8], buffer: &mut [u8]) -> Result<Header, Refusal>
     requires { Image g image.now }
     ensures { let b = buffer.old in
-        read_answer result buffer.new ≡ read_answer_by b (read_on (geo g) (sectors_of g image.now) name.now (length b)) }
+        read_answer (reading_of result) buffer.new ≡ read_answer_by b (read_on (geo g) (sectors_of g image.now) name.now (length b)) }
 {
-    match lookup::entry_on(image, g, name) {
-        Judged::Refused(number) => refused(number),
-        Judged::At(n, i) => read_file(image, g, n, i, buffer),
-    }
+    let slot = lookup::entry_on(image, g, name)?;
+    read_file(image, g, slot, buffer)
 }
 
-pub fn read(image: &[u8], stated: Stated, name: &[u8], buffer: &mut [u8]) -> Reading
-    ensures { read_answer result buffer.new ≡ after_read (kind_of stated) image.now name.now buffer.old }
+pub fn read(image: &[u8], stated: Stated, name: &[u8], buffer: &mut [u8]) -> Result<Header, Refusal>
+    ensures { read_answer (reading_of result) buffer.new ≡ after_read (kind_of stated) image.now name.now buffer.old }
 {
-    match geometry::geometry_of(stated, image.len()) {
-        Sized::Wrong => refused(refusals::SIZE),
-        Sized::Of(g) => read_on(image, g, name, buffer),
+    let g = geometry::geometry_of(stated, image.len())?;
+    read_on(image, g, name, buffer)
+}
+
+impl From<Result<Header, Refusal>> for Reading {
+    ghost from_gives = { λ answer r. r ≡ reading_of answer };
+
+    // With a refusal every other number is 0.
+    fn from(answer: Result<Header, Refusal>) -> Reading {
+        match answer {
+            Ok(header) => Reading {
+                number: refusals::DONE,
+                page: header.page as u32,
+                start: header.start as u32,
+                end: header.end as u32,
+                transfer: header.transfer as u32,
+                length: header.length,
+            },
+            Err(refusal) => Reading {
+                number: u32::from(refusal),
+                page: 0,
+                start: 0,
+                end: 0,
+                transfer: 0,
+                length: 0,
+            },
+        }
     }
 }

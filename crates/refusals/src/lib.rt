@@ -1,32 +1,45 @@
-// Document 01's refusal numbers and those that document 02 adds, as the calls answer them. 0 is done.
+// Document 01's refusals and those that document 02 adds, with the numbers that the calls answer.
 #![tactic(auto)]
 
+ghost use Rattle.std.specs.Prelude.{◌≡◌};
+ghost use Rattle.refusals.specs.Meaning.{number_of_refusal, number_of_answer};
+
+// Why a call is refused, each with its number.
+#[derive(Clone, Copy, PartialEq, Eq)]
+pub enum Refusal {
+    Size = 1,
+    Name = 2,
+    Unsound = 3,
+    Absent = 4,
+    Taken = 5,
+    Protected = 6,
+    Module = 7,
+    Room = 8,
+    NotPlain = 9,
+    Short = 10,
+    NoSector = 11,
+    BadSheet = 12,
+    Total = 13,
+    BadList = 14,
+}
+
+// The number of a call that is done.
 pub const DONE: u32 = 0;
 
-pub const SIZE: u32 = 1;
+impl From<Refusal> for u32 {
+    ghost from_gives = { λ e r. r ≡ number_of_refusal e };
 
-pub const NAME: u32 = 2;
+    fn from(refusal: Refusal) -> u32 {
+        refusal as u32
+    }
+}
 
-pub const UNSOUND: u32 = 3;
-
-pub const ABSENT: u32 = 4;
-
-pub const TAKEN: u32 = 5;
-
-pub const PROTECTED: u32 = 6;
-
-pub const MODULE: u32 = 7;
-
-pub const ROOM: u32 = 8;
-
-pub const NOT_PLAIN: u32 = 9;
-
-pub const SHORT: u32 = 10;
-
-pub const NO_SECTOR: u32 = 11;
-
-pub const BAD_SHEET: u32 = 12;
-
-pub const TOTAL: u32 = 13;
-
-pub const BAD_LIST: u32 = 14;
+// The number of an answer that has nothing beside it.
+pub fn number(answer: Result<(), Refusal>) -> u32
+    ensures { result ≡ number_of_answer answer }
+{
+    match answer {
+        Ok(()) => DONE,
+        Err(refusal) => u32::from(refusal),
+    }
+}

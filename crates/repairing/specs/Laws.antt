@@ -23,6 +23,7 @@ use Rattle.disc.specs.Meaning.{meaning}
 use Rattle.geometry.specs.Laws.{good, image_full}
 use Rattle.geometry.specs.declared.Geometry as code
 use Rattle.disc.specs.declared.Link.{Link}
+use Rattle.geometry.specs.declared.SectorNo.{SectorNo}
 use Rattle.disc.specs.declared.Address.{Address}
 use Rattle.fsck_chains.specs.Marks.{clear}
 use Rattle.fsck.specs.Rules.{marks_of, Stood, clear_is}
@@ -98,7 +99,7 @@ module _ {g : code.Geometry} {image : List ℕ} (i : Image g image) where
 
   -- the sectors are threaded, and then the system sector is written
   module _ {m threaded : List ℕ} {used count : ℕ} {first : Address} (s : Stood G d used m) (t : Threaded g m image 0 first count threaded) where
-    pub repaired : (to : Link) → meaning to ≡ pointed G first.track first.sector → (after : List ℕ)
+    pub repaired : (to : Link SectorNo) → meaning to ≡ pointed G first.track first.sector → (after : List ℕ)
         → sectors_of g after ≡ written (system_write G (sectors_of g threaded) (meaning to) count used ∷ []) (sectors_of g threaded)
         → sectors_of g after ≡ written (repair_writes G d) d
     unfolding repair_writes

@@ -1,9 +1,9 @@
 -- What the loops that thread the free sectors have done when they have come to position k of the passing order, and their turns.
 -- Assumes nothing.
 use Rattle.std.specs.Prelude.{◌≡◌, refl, ◌≢◌, get_or}
-use Rattle.std.proofs.Common.{sym, subst, ◌∙◌, arith, drop_of_length-le, eq-eqb, ne_eqb}
+use Rattle.std.proofs.Common.{sym, ◌∙◌, arith, drop_of_length-le, eq-eqb, ne_eqb}
 use Rattle.std.proofs.Math.Path.{ap, ap₂}
-use Prim.Native.Nat.{ℕ, ◌+◌, ◌*◌, ◌%◌, ◌≤◌, ◌<◌}
+use Prim.Native.Nat.{ℕ, ◌+◌, ◌*◌, ◌/◌, ◌%◌, ◌≤◌, ◌<◌}
 use mathlib.Core.List.{List, [], ◌∷◌}
 use Rattle.std.proofs.Math.ListN.{length}
 use Rattle.lists.specs.Lists.{filter}
@@ -33,10 +33,14 @@ pub record Extends (g : Geometry) (m : List ℕ) (j : ℕ) (first₀ : Address) 
   pub few : count + k ≤ g.sectors
   pub threads : (before : List ℕ) → Threaded g m before j first₀ count₀ x → Threaded g m before k first count y
 
--- the same position, said otherwise
-pub thread_as : {g : Geometry} {m before after : List ℕ} {first : Address} {count : ℕ} {j k : ℕ} → j ≡ k → Threaded g m before j first count after
-    → Threaded g m before k first count after
-thread_as {g} {m} {before} {after} {first} {count} e t = subst (λ (n : ℕ). Threaded g m before n first count after) e t
+-- the track and sector byte that a link's two bytes are, which stand for a number
+abbrev pub linking : ℕ → Address
+linking link = record { track = link % 256; sector = link / 256 % 256 }
+
+pub linking_is : {link : ℕ} (first : Address) → link ≡ first.track + 256 * first.sector → first.track < 256 → first.sector < 256 → linking link ≡ first
+linking_is first e t s =
+    let began : ℕ → ℕ → Address = λ t s. record { track = t; sector = s } in
+    ap₂ began (omega (arith, e, t)) (omega (arith, e, t, s))
 
 -- nothing is linked
 pub thread_start : {g : Geometry} → Valid g → (m image : List ℕ) (k : ℕ) → k ≡ g.sectors → (first : Address) → first.track ≡ 0 → first.sector ≡ 0
@@ -128,13 +132,3 @@ module _ {g : Geometry} (v : Valid g) (track i : ℕ) (on : track < g.tracks) (h
         few = omega (arith, t.few);
         threads = λ before b. thread_more v j position next (track_inside v track i on h) (t.threads before b) (mark_is ∙ clear) p same stored;
       }
-
--- ---- the ends of that loop
-
-pub extend_none : {g : Geometry} {m x : List ℕ} {first : Address} {count : ℕ} (j k : ℕ) → j ≡ k → count + j ≤ g.sectors
-    → Extends g m j first count x k first count x
-extend_none j k e few = record { few = omega arith; threads = λ before t. thread_as e t }
-
-pub extend_end : {g : Geometry} {m x y : List ℕ} {from j : ℕ} {first₀ first : Address} {count₀ count : ℕ} (k : ℕ) → j ≡ k
-    → Extends g m from first₀ count₀ x j first count y → Extends g m from first₀ count₀ x k first count y
-extend_end k e t = record { few = omega (arith, t.few); threads = λ before b. thread_as e (t.threads before b) }

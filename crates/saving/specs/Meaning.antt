@@ -1,22 +1,24 @@
 -- The steps of the call save.
 -- Assumes nothing.
-use Rattle.std.specs.Prelude.{◌≡◌, ℕ, ◌<◌, not, List, length, ltb}
-use Rattle.std.proofs.Math.Option.{Option, none, some}
+use Rattle.std.specs.Prelude.{◌≡◌, ℕ, ◌<◌, not, List, length, ltb, Ok, Err}
+use Rattle.std.specs.declared.option.Option as code
+use Rattle.std.specs.declared.result.Result.{Result}
+use Rattle.std.proofs.Math.Option.{Option}
 use Rattle.lists.specs.Lists.{is_some}
 use Rattle.format.specs.Refusals.{Try, Refusal, NAME, MODULE, UNSOUND, TAKEN, ROOM, ok, ◌>>=◌, ◌>>◌, refuse◌if◌, ◌or_refuse◌}
 use Rattle.format.specs.Geometry as format
 use Rattle.format.specs.Geometry.{Disc, Write}
 use Rattle.format.specs.Names.{stored}
-use Rattle.format.specs.Layout.{slots_each, Slot, slot_at, free, open_slot, find}
+use Rattle.format.specs.Layout.{Slot, free, open_slot, find}
 use Rattle.format.specs.Check.{sound}
 use Rattle.format.specs.Modules.{Module, storable}
 use Rattle.format.specs.Effects.{needed, save_writes}
 use Rattle.geometry.specs.Meaning.{sectors_of}
 use Rattle.geometry.specs.declared.Geometry.{Geometry}
 use Rattle.answers.specs.Meaning.{Refuses}
-use Rattle.saving.specs.declared.Vacancy as code
-use Rattle.saving.specs.declared.Vacancy.TheVariants.{NewSector, Refused}
-use Rattle.saving.specs.declared.Vacancy.TheVariants as variants
+use Rattle.refusals.specs.declared.Refusal as refusal
+use Rattle.slots.specs.declared.slot_no.SlotNo.{SlotNo}
+use Rattle.directory.specs.Meaning.{found_of, Within}
 
 -- the module that a save is handed: its page, start and transfer, and the sheet
 abbrev pub handed : (page start transfer : ℕ) (sheet : List ℕ) → Module
@@ -43,8 +45,7 @@ save_as G d nine m = do
   s ← vacancy_on G d nine (length m.bytes)
   ok (save_writes G d nine m)
 
--- the code's answer for the entry's slot
-abbrev pub Offers : Geometry → List ℕ → code.Vacancy → Try Refusal (Option Slot) → Type 0
-Offers g image (variants.Slot n i) t = (t ≡ ok (some (slot_at (sectors_of g image) n.0 i))) × (n.0 < g.sectors) × (i < slots_each)
-Offers g image NewSector t = t ≡ ok none
-Offers g image (Refused k) t = Refuses t k
+-- the code's answer for the entry's slot: one of a sector of the disc, or none; or its refusal
+abbrev pub Offers : Geometry → List ℕ → Result (code.Option SlotNo) refusal.Refusal → Try Refusal (Option Slot) → Type 0
+Offers g image (Ok slot) t = (t ≡ ok (found_of (sectors_of g image) slot)) × Within (λ n. n < g.sectors) slot
+Offers g image (Err e) t = Refuses t e

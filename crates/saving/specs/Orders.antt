@@ -1,7 +1,9 @@
 -- The refusals of save, one after the other.
 -- Assumes nothing.
-use Rattle.std.specs.Prelude.{◌≡◌, ℕ, ◌+◌, ◌≤◌, ◌<◌, Bool, not, leb, ltb}
-use Rattle.std.proofs.Math.Path.{refl, sym}
+use Rattle.std.specs.Prelude.{◌≡◌, ℕ, ◌+◌, ◌≤◌, ◌<◌, Bool, not, leb, ltb, Some, None, Err}
+use Rattle.std.specs.Prelude.{is_some as code_some}
+use Rattle.std.specs.declared.option.Option as found
+use Rattle.std.proofs.Math.Path.{refl, sym, ap}
 use Rattle.std.proofs.Common.{subst, ◌∙◌}
 use Rattle.std.proofs.Math.Bool.{true, false}
 use Rattle.std.proofs.Math.Option.{Option, none, some}
@@ -9,15 +11,20 @@ use mathlib.Core.List.{List}
 use Rattle.std.proofs.Math.ListN.{length}
 use borrow.Author.Tests.{not-false, leb-true, leb-false, lt-ltb, le-ltb, ltb-false}
 use Rattle.lists.specs.Lists.{is_some}
-use Rattle.format.specs.Refusals.{Try, Refusal, NAME, MODULE, UNSOUND, TAKEN, ROOM, refused, ok, ◌>>=◌, ◌>>◌, refuse◌if◌, ◌or_refuse◌}
+use Rattle.format.specs.Refusals.{NAME, MODULE, UNSOUND, TAKEN, ROOM, refused, ok, ◌>>=◌, ◌>>◌, refuse◌if◌, ◌or_refuse◌}
 use Rattle.format.proofs.RefusalLaws.{ok_is, or_ok, if_ok}
-use Rattle.format.specs.Geometry.{Geometry, Disc, Write}
+use Rattle.format.specs.Geometry.{Geometry, Disc}
 use Rattle.format.specs.Names.{stored}
 use Rattle.format.specs.Layout.{Slot, free, open_slot, find}
 use Rattle.format.specs.Check.{sound}
 use Rattle.format.specs.Modules.{Module, is_module, storable, sectors_for}
 use Rattle.format.specs.Effects.{growth, needed, save_writes}
 use Rattle.format.specs.Calls.{save_before_on, save_on}
+use Rattle.refusals.specs.declared.Refusal as code
+use Rattle.refusals.specs.Meaning.{reason}
+use Rattle.names.specs.Answer.{parsed, parsed_err, parsed_name}
+use Rattle.slots.specs.declared.slot_no.SlotNo.{SlotNo}
+use Rattle.directory.specs.Meaning.{found_of}
 use Rattle.answers.specs.Meaning.{Refuses}
 use Rattle.answers.specs.Laws.{refuses_then}
 use Rattle.saving.specs.Meaning.{handed, save_name_on, vacancy_on, save_as}
@@ -28,6 +35,9 @@ module _ (G : Geometry) (d : Disc) (name : List ℕ) (m : Module) where
   pub name_none : stored name ≡ none → save_name_on G d name m ≡ refused NAME
   unfolding save_name_on ◌>>=◌ ◌or_refuse◌
   name_none e = rw e
+
+  pub name_err : (e : code.Refusal) → Err e ≡ parsed (stored name) → Refuses (save_name_on G d name m) e
+  name_err e is = name_none (parsed_err _ e is) ∙ ap (λ (e : code.Refusal). refused (reason e)) (sym (parsed_name _ e is))
 
   module _ (nine : List ℕ) (e : stored name ≡ some nine) where
     pub name_module : storable m ≡ false → save_name_on G d name m ≡ refused MODULE
@@ -79,10 +89,9 @@ module _ (G : Geometry) (d : Disc) (name : List ℕ) (page start transfer : ℕ)
   unfolding save_name_on storable is_module
   transfer_free = refl
 
-  pub save_refused : (k : ℕ) → Refuses (save_name_on G d name (handed page start 0 sheet)) k → Refuses (save_on G d name (handed page start transfer sheet)) k
-  save_refused k h =
-      subst (λ (t : Try Refusal (List Write)). Refuses t k) (sym (save_is G d name (handed page start transfer sheet)))
-      (refuses_then _ _ k (subst (λ (t : Try Refusal (List ℕ)). Refuses t k) transfer_free h))
+  pub save_refused : (e : code.Refusal) → Refuses (save_name_on G d name (handed page start 0 sheet)) e
+      → Refuses (save_on G d name (handed page start transfer sheet)) e
+  save_refused e h = save_is G d name (handed page start transfer sheet) ∙ refuses_then _ _ e (sym transfer_free ∙ h)
 
   pub save_named : (nine : List ℕ) → save_name_on G d name (handed page start 0 sheet) ≡ ok nine
       → save_on G d name (handed page start transfer sheet) ≡ save_as G d nine (handed page start transfer sheet)
@@ -91,12 +100,17 @@ module _ (G : Geometry) (d : Disc) (name : List ℕ) (page start transfer : ℕ)
 
 -- ---- the refusals 5 and 8
 
-module _ (G : Geometry) (d : Disc) (nine : List ℕ) (L : ℕ) where
-  pub vacancy_taken : (s : Slot) → find G d nine ≡ some s → vacancy_on G d nine L ≡ refused TAKEN
-  unfolding vacancy_on ◌>>◌ refuse◌if◌
-  vacancy_taken s f = rw f
+-- whether a search found
+pub found_some : (d : Disc) (r : found.Option SlotNo) {s : Option Slot} → found_of d r ≡ s → is_some s ≡ code_some r
+found_some d (Some x) e = ap is_some (sym e)
+found_some d None e = ap is_some (sym e)
 
-  module _ (f : find G d nine ≡ none) (count : ℕ) (e : count ≡ sectors_for L) where
+module _ (G : Geometry) (d : Disc) (nine : List ℕ) (L : ℕ) where
+  pub vacancy_taken : is_some (find G d nine) ≡ true → vacancy_on G d nine L ≡ refused TAKEN
+  unfolding vacancy_on ◌>>◌ refuse◌if◌
+  vacancy_taken f = rw f
+
+  module _ (f : is_some (find G d nine) ≡ false) (count : ℕ) (e : count ≡ sectors_for L) where
     pub vacancy_room : leb (count + growth G d) (length (free G d)) ≡ false → vacancy_on G d nine L ≡ refused ROOM
     unfolding vacancy_on needed ◌>>◌ refuse◌if◌
     vacancy_room h = rw (f, lt-ltb _ _ (subst (λ (k : ℕ). length (free G d) < k + growth G d) e (leb-false _ _ h)))
@@ -113,7 +127,12 @@ module _ (G : Geometry) (d : Disc) (nine : List ℕ) (L : ℕ) where
       let room = if_ok _ _ _ fresh.1 in
       (ltb-false _ _ room.0, ok_is room.1)
 
-pub save_ok : (G : Geometry) (d : Disc) (nine : List ℕ) (m : Module) (o : Option Slot) → vacancy_on G d nine (length m.bytes) ≡ ok o
-    → save_as G d nine m ≡ ok (save_writes G d nine m)
-unfolding save_as ◌>>=◌
-save_ok G d nine m o p = rw p
+module _ (G : Geometry) (d : Disc) (nine : List ℕ) (m : Module) where
+  -- refused for the same reason
+  pub save_kept_out : (e : code.Refusal) → Refuses (vacancy_on G d nine (length m.bytes)) e → Refuses (save_as G d nine m) e
+  unfolding save_as
+  save_kept_out e h = refuses_then _ _ e h
+
+  pub save_ok : (o : Option Slot) → vacancy_on G d nine (length m.bytes) ≡ ok o → save_as G d nine m ≡ ok (save_writes G d nine m)
+  unfolding save_as ◌>>=◌
+  save_ok o p = rw p

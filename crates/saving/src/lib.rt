@@ -1,29 +1,25 @@
 // Save: judging, which gives its refusals in order; then its sector writes and the list of them.
 #![tactic(auto)]
 
-ghost use Rattle.std.specs.Prelude.{◌≡◌, true, ◌+◌, ◌≤◌, ◌<◌, leb, length};
-ghost use Rattle.std.proofs.Math.Option.{none, some};
+ghost use Rattle.std.specs.Prelude.{◌≡◌, true, cond, ◌+◌, ◌≤◌, leb, length, is_some};
 ghost use Rattle.format.specs.Names.{legal_stored};
-ghost use Rattle.format.specs.Layout.{slots_each, free_count, slot_at, free, open_slot};
+ghost use Rattle.format.specs.Layout.{free_count, free, open_slot};
 ghost use Rattle.format.specs.Check.{sound};
 ghost use Rattle.format.specs.ModuleLaws.{IsModule};
-ghost use Rattle.format.specs.Refusals.{ok};
-ghost use Rattle.format.specs.Effects.{growth, save_writes};
+ghost use Rattle.format.specs.Effects.{growth};
 ghost use Rattle.format.specs.Calls.{save_on, after_save};
 ghost use Rattle.geometry.specs.Meaning.{kind_of, geo, sectors_of, Image};
 ghost use Rattle.modules.specs.Meaning.{module_of};
 ghost use Rattle.directory.specs.Meaning.{Finds};
 ghost use Rattle.lookup.specs.Meaning.{Names};
-ghost use Rattle.saving_sectors.specs.Meaning.{Ready};
-ghost use Rattle.answers.specs.Meaning.{Lists, change_answer};
+ghost use Rattle.answers.specs.Meaning.{Lists, filled, change_answer};
 ghost use Rattle.saving.specs.Meaning.{handed, save_name_on, vacancy_on, Offers, save_as};
 
-use answers::Filled;
-use directory::Found;
-use geometry::{Geometry, SectorNo, Sized, Stated};
-use lookup::Named;
+use geometry::{Geometry, Stated};
 use modules::Numbers;
 use names::Name;
+use refusals::Refusal;
+use slots::SlotNo;
 
 // ---- judging
 
@@ -35,31 +31,24 @@ pub fn save_name_on(
     page: u32,
     start: u16,
     sheet: &[u8],
-) -> Named
+) -> Result<Name, Refusal>
     requires { Image g image.now }
     ensures { let d = sectors_of g image.now in
         Names result (save_name_on (geo g) d name.now (handed page start 0 sheet.now)) }
 {
-    let parsed = names::file_name(name);
-    if !parsed.ok {
-        return lookup::unnamed(refusals::NAME);
-    }
-    let stored = parsed.name;
+    let stored = names::file_name(name)?;
     if !modules::is_module(page, start, sheet.len()) {
-        return lookup::unnamed(refusals::MODULE);
+        return Err(Refusal::Module);
     }
     if !fsck::is_sound(image, g) {
-        return lookup::unnamed(refusals::UNSOUND);
+        return Err(Refusal::Unsound);
     }
-    Named {
-        number: refusals::DONE,
-        name: stored,
-    }
+    Ok(stored)
 }
 
 // Whether the free chain has the sectors of a file of `count` sectors, and one more where no slot is free. `slot` is what
 // `directory::open_slot` found.
-fn has_room(image: &[u8], g: Geometry, slot: Found, count: usize) -> bool
+fn has_room(image: &[u8], g: Geometry, slot: Option<SlotNo>, count: usize) -> bool
     requires { let d = sectors_of g image.now in
         Image g image.now × Finds g image.now slot (open_slot (geo g) d) × (free_count d ≡ length (free (geo g) d)) }
     ensures { let d = sectors_of g image.now in
@@ -67,99 +56,89 @@ fn has_room(image: &[u8], g: Geometry, slot: Found, count: usize) -> bool
 {
     let free = system::free_count(image, g) as usize;
     match slot {
-        Found::At(_, _) => count <= free,
-        Found::Nothing => count < free,
+        Some(_) => count <= free,
+        None => count < free,
     }
 }
 
-// Where a save puts its entry: into a slot, or into a new sector of the directory; or the number of the first refusal that applies.
-#[derive(Clone, Copy)]
-pub enum Vacancy {
-    Slot(SectorNo, usize),
-    NewSector,
-    Refused(u32),
-}
-
-// The refusals 5 and 8, for a module of so many bytes.
-pub fn vacancy_for(image: &[u8], g: Geometry, name: Name, size: usize) -> Vacancy
+// The refusals 5 and 8, for a module of so many bytes: the slot that its entry takes, or none where the directory takes a new sector.
+pub fn vacancy_for(
+    image: &[u8],
+    g: Geometry,
+    name: Name,
+    size: usize,
+) -> Result<Option<SlotNo>, Refusal>
     requires { Image g image.now × (sound (geo g) (sectors_of g image.now) ≡ true) × (legal_stored name.bytes ≡ true) × (size ≤ 65536) }
     ensures { Offers g image.now result (vacancy_on (geo g) (sectors_of g image.now) name.bytes size) }
 {
-    if let Found::At(_, _) = directory::find(image, g, name) {
-        return Vacancy::Refused(refusals::TAKEN);
+    if directory::find(image, g, name).is_some() {
+        return Err(Refusal::Taken);
     }
     let slot = directory::open_slot(image, g);
     if !has_room(image, g, slot, modules::sectors_for(size)) {
-        return Vacancy::Refused(refusals::ROOM);
+        return Err(Refusal::Room);
     }
-    match slot {
-        Found::At(n, i) => Vacancy::Slot(n, i),
-        Found::Nothing => Vacancy::NewSector,
-    }
+    Ok(slot)
 }
 
 // ---- writing
 
-// Saves into slot i of directory sector n, which is free: the refusal 10, then the writes and their list.
-fn list_in_slot(
+// How many sectors a save writes: those of its module, the system sector, and one of the directory or, where it grows, two.
+fn write_count(count: usize, to: Option<SlotNo>) -> usize
+    requires { count ≤ 300 }
+    ensures { result ≡ count + cond (is_some to) 2 3 }
+{
+    match to {
+        Some(_) => count + 2,
+        None => count + 3,
+    }
+}
+
+// The refusal 10, then the writes and their list.
+#[tactic(auto, using(crate::specs::Listing::few_sectors, crate::specs::Listing::few_others))]
+fn save_into(
     image: &mut [u8],
     g: Geometry,
-    n: SectorNo,
-    i: usize,
+    to: Option<SlotNo>,
     name: Name,
     m: Numbers,
     sheet: &[u8],
     list: &mut [u8],
-) -> Filled
+) -> Result<u32, Refusal>
     requires { let d = sectors_of g image.old in
-        Ready g image.old (module_of m sheet.now) × (open_slot (geo g) d ≡ some (slot_at d n.0 i)) × (n.0 < g.sectors) × (i < slots_each) }
+        Image g image.old × (sound (geo g) d ≡ true) × IsModule (module_of m sheet.now)
+        × Offers g image.old (Ok to) (vacancy_on (geo g) d name.bytes (length sheet.now)) }
     ensures { let d = sectors_of g image.old in
         Lists g image.old image.new list.old list.new result
-        (ok (save_writes (geo g) d name.bytes (module_of m sheet.now))) }
+        (save_as (geo g) d name.bytes (module_of m sheet.now)) }
 {
     let count = modules::sectors_for(sheet.len());
-    if list.len() < writes::list_size(count + 2) {
-        return answers::refused(refusals::SHORT);
+    if list.len() < writes::list_size(write_count(count, to)) {
+        return Err(Refusal::Short);
     }
     let first = system::system_of(image, g).pointer;
-    saving_sectors::save_in_slot(image, g, n, i, name, m, sheet);
-    writes::put_saved(image, g, first, count, n, list)
-}
-
-// The same where no slot is free.
-fn list_and_grow(
-    image: &mut [u8],
-    g: Geometry,
-    name: Name,
-    m: Numbers,
-    sheet: &[u8],
-    list: &mut [u8],
-) -> Filled
-    requires { Ready g image.old (module_of m sheet.now) × (open_slot (geo g) (sectors_of g image.old) ≡ none) }
-    ensures { Lists g image.old image.new list.old list.new result
-        (ok (save_writes (geo g) (sectors_of g image.old) name.bytes (module_of m sheet.now))) }
-{
-    let count = modules::sectors_for(sheet.len());
-    if list.len() < writes::list_size(count + 3) {
-        return answers::refused(refusals::SHORT);
+    match to {
+        Some(slot) => {
+            saving_sectors::save_in_slot(image, g, slot, name, m, sheet);
+            Ok(writes::put_saved(image, g, first, count, slot.sector, list))
+        }
+        None => {
+            let grown = saving_sectors::save_and_grow(image, g, name, m, sheet);
+            Ok(writes::put_grown(image, g, first, count, grown.new, grown.last, list))
+        }
     }
-    let first = system::system_of(image, g).pointer;
-    let grown = saving_sectors::save_and_grow(image, g, name, m, sheet);
-    let new = grown.new;
-    let last = grown.last;
-    writes::put_grown(image, g, first, count, new, last, list)
 }
 
-// The refusal 10 and the writes, where `to` is what `vacancy_for` gave; its refusal stands.
+// The same where `to` is what `vacancy_for` gave; its refusal stands.
 pub fn put_save(
     image: &mut [u8],
     g: Geometry,
-    to: Vacancy,
+    to: Result<Option<SlotNo>, Refusal>,
     name: Name,
     m: Numbers,
     sheet: &[u8],
     list: &mut [u8],
-) -> Filled
+) -> Result<u32, Refusal>
     requires { let d = sectors_of g image.old in
         Image g image.old × (sound (geo g) d ≡ true) × IsModule (module_of m sheet.now)
         × Offers g image.old to (vacancy_on (geo g) d name.bytes (length sheet.now)) }
@@ -167,11 +146,8 @@ pub fn put_save(
         Lists g image.old image.new list.old list.new result
         (save_as (geo g) d name.bytes (module_of m sheet.now)) }
 {
-    match to {
-        Vacancy::Refused(number) => answers::refused(number),
-        Vacancy::Slot(n, i) => list_in_slot(image, g, n, i, name, m, sheet, list),
-        Vacancy::NewSector => list_and_grow(image, g, name, m, sheet, list),
-    }
+    let vacancy = to?;
+    save_into(image, g, vacancy, name, m, sheet, list)
 }
 
 fn save_on(
@@ -183,18 +159,13 @@ fn save_on(
     transfer: u16,
     sheet: &[u8],
     list: &mut [u8],
-) -> Filled
+) -> Result<u32, Refusal>
     requires { Image g image.old }
     ensures { let d = sectors_of g image.old in
         Lists g image.old image.new list.old list.new result
         (save_on (geo g) d name.now (handed page start transfer sheet.now)) }
 {
-    let named = save_name_on(image, g, name, page, start, sheet);
-    let number = named.number;
-    let stored = named.name;
-    if number != refusals::DONE {
-        return answers::refused(number);
-    }
+    let stored = save_name_on(image, g, name, page, start, sheet)?;
     let m = Numbers {
         page: page as u8,
         start,
@@ -213,12 +184,10 @@ pub fn save(
     transfer: u16,
     sheet: &[u8],
     list: &mut [u8],
-) -> Filled
-    ensures { change_answer result image.new list.new ≡ after_save (kind_of stated) image.old
+) -> Result<u32, Refusal>
+    ensures { change_answer (filled result) image.new list.new ≡ after_save (kind_of stated) image.old
         name.now (handed page start transfer sheet.now) list.old }
 {
-    match geometry::geometry_of(stated, image.len()) {
-        Sized::Wrong => answers::refused(refusals::SIZE),
-        Sized::Of(g) => save_on(image, g, name, page, start, transfer, sheet, list),
-    }
+    let g = geometry::geometry_of(stated, image.len())?;
+    save_on(image, g, name, page, start, transfer, sheet, list)
 }

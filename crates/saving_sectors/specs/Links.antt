@@ -5,10 +5,11 @@ use Rattle.std.proofs.Common.{arith}
 use Rattle.format.specs.Geometry.{stop}
 use Rattle.disc.specs.Meaning.{meaning, Inside}
 use Rattle.geometry.specs.declared.Geometry.{Geometry}
+use Rattle.geometry.specs.declared.SectorNo.{SectorNo}
 use Rattle.disc.specs.declared.Link.{Link}
 use Rattle.disc.specs.declared.Link.TheVariants.{End, To, Off}
 
-pub link_inside : (g : Geometry) (b : Bool) (l next : Link) → Inside g next → meaning l ≡ cond b (meaning next) stop → Inside g l
+pub link_inside : (g : Geometry) (b : Bool) (l next : Link SectorNo) → Inside g next → meaning l ≡ cond b (meaning next) stop → Inside g l
 link_inside g b End next h e = tt
 link_inside g b Off next h e = tt
 link_inside g true (To n) (To k) h e = let same : n.0 ≡ k.0 = cc in omega arith

@@ -6,21 +6,23 @@ ghost use Rattle.std.specs.Prelude.{◌≡◌, false, cond, [], ◌∷◌, ◌++
 ghost use Rattle.std.proofs.Math.Option.{none, some};
 ghost use Rattle.lists.specs.Lists.{word};
 ghost use Rattle.format.specs.Geometry.{stop, go, written};
-ghost use Rattle.format.specs.Layout.{slots_each, link_offset, attribute, slot_at, link_bytes, pair_bytes, free_pointer, open_slot};
+ghost use Rattle.format.specs.Layout.{link_offset, attribute, link_bytes, pair_bytes, free_pointer, open_slot};
 ghost use Rattle.format.specs.Modules.{sectors_for};
 ghost use Rattle.format.specs.Effects.{with_slot, save_writes};
 ghost use Rattle.geometry.specs.Meaning.{geo, sectors_of, Valid, Image};
 ghost use Rattle.disc.specs.Meaning.{meaning, stored_at, Inside};
 ghost use Rattle.modules.specs.Meaning.{module_of};
+ghost use Rattle.slots.specs.Meaning.{slot_of};
 ghost use Rattle.saving_sectors.specs.Meaning.{Ready, ModulePut, NewFileAs, GrownBy};
 
 use disc::Link;
 use geometry::{Geometry, SectorNo};
 use modules::Numbers;
 use names::Name;
+use slots::SlotNo;
 
 // The link of sector j of a file of `count` sectors.
-fn link_in_file(next: Link, j: usize, count: usize) -> Link
+fn link_in_file(next: Link<SectorNo>, j: usize, count: usize) -> Link<SectorNo>
     requires { j < count }
     ensures { meaning result ≡ cond (ltb (j + 1) count) (meaning next) stop }
 {
@@ -34,14 +36,14 @@ fn link_in_file(next: Link, j: usize, count: usize) -> Link
 #[derive(Clone, Copy)]
 pub struct Taken {
     pub last: SectorNo,
-    pub next: Link,
+    pub next: Link<SectorNo>,
 }
 
 // Writes a module of `count` sectors into the first ones of the free chain. Each link is read before its sector is written.
 fn put_module(
     image: &mut [u8],
     g: Geometry,
-    pointer: Link,
+    pointer: Link<SectorNo>,
     m: Numbers,
     sheet: &[u8],
     count: usize,
@@ -51,62 +53,61 @@ fn put_module(
     ensures { ModulePut g image.old image.new (module_of m sheet.now) result }
 {
     let mut at = pointer;
-    let mut last = SectorNo(0);
-    let mut j: usize = 0;
-    while j < count {
+    let mut last = system::SYSTEM;
+    for j in 0..count {
         let Link::To(n) = at else {
-            return Taken { last, next: at };
+            unreachable!();
         };
         let next = disc::link_of(image, g, n);
         let link = link_in_file(next, j, count);
         modules::put_nth(image, g, n, link, m, sheet, j);
         last = n;
         at = next;
-        j += 1;
     }
     Taken { last, next: at }
 }
 
 // A new entry. The file is unprotected.
-fn entry_bytes(g: Geometry, name: Name, count: usize, first: Link, last: SectorNo) -> [u8; 16]
+fn entry_bytes(
+    g: Geometry,
+    name: Name,
+    count: usize,
+    first: Link<SectorNo>,
+    last: SectorNo,
+) -> [u8; 16]
     requires { Valid g × Inside g first × (last.0 < g.sectors) }
     ensures { result ≡ name.bytes ++ word count ++ pair_bytes (geo g) (meaning first) ++ pair_bytes (geo g) (go last.0) ++ attribute false ∷ [] }
 {
-    let nine = name.bytes;
+    let counted = byte_loops::word_bytes(count);
     let from = disc::address_of(g, first);
     let to = disc::address_of(g, Link::To(last));
-    [
-        nine[0],
-        nine[1],
-        nine[2],
-        nine[3],
-        nine[4],
-        nine[5],
-        nine[6],
-        nine[7],
-        nine[8],
-        (count % 256) as u8,
-        (count / 256 % 256) as u8,
+    let rest = [
+        counted[0],
+        counted[1],
         from.sector,
         from.track,
         to.sector,
         to.track,
         slots::UNPROTECTED,
-    ]
+    ];
+    let mut entry = [0; 16];
+    entry[..9].copy_from_slice(&name.bytes);
+    entry[9..].copy_from_slice(&rest);
+    entry
 }
 
 // The entry of a module that was written, and the link found in its last sector.
 #[derive(Clone, Copy)]
 pub struct NewFile {
     pub entry: [u8; 16],
-    pub next: Link,
+    pub next: Link<SectorNo>,
 }
 
 // Writes a module's sectors, and makes its entry.
 fn put_file(
     image: &mut [u8],
     g: Geometry,
-    pointer: Link,
+    pointer: Link<SectorNo>,
     name: Name,
     m: Numbers,
     sheet: &[u8],
@@ -117,38 +118,34 @@ fn put_file(
     ensures { NewFileAs g image.old image.new name.bytes (module_of m sheet.now) result }
 {
     let taken = put_module(image, g, pointer, m, sheet, count);
-    let last = taken.last;
-    let next = taken.next;
-    let entry = entry_bytes(g, name, count, pointer, last);
-    NewFile { entry, next }
+    NewFile {
+        entry: entry_bytes(g, name, count, pointer, taken.last),
+        next: taken.next,
+    }
 }
 
-// Saves into slot i of directory sector n, which is free.
+// Saves into a slot, which is free.
 pub fn save_in_slot(
     image: &mut [u8],
     g: Geometry,
-    n: SectorNo,
-    i: usize,
+    slot: SlotNo,
     name: Name,
     m: Numbers,
     sheet: &[u8],
 )
     requires { let d = sectors_of g image.old in
-        Ready g image.old (module_of m sheet.now) × (open_slot (geo g) d ≡ some (slot_at d n.0 i)) × (n.0 < g.sectors) × (i < slots_each) }
+        Ready g image.old (module_of m sheet.now) × (open_slot (geo g) d ≡ some (slot_of d slot)) × (slot.sector.0 < g.sectors) }
     ensures { let d = sectors_of g image.old in
         sectors_of g image.new ≡ written (save_writes (geo g) d name.bytes (module_of m sheet.now)) d }
 {
     let sys = system::system_of(image, g);
-    let pointer = sys.pointer;
     let free = sys.free as usize;
     let used = sys.used as usize;
-    let in_use = slots::in_use_of(image, g, n);
+    let in_use = slots::in_use_of(image, g, slot.sector);
     let count = modules::sectors_for(sheet.len());
-    let file = put_file(image, g, pointer, name, m, sheet, count);
-    let entry = file.entry;
-    let next = file.next;
-    slots::put_slot(image, g, n, i, in_use + 1, &entry);
-    system::put_system(image, g, next, free - count, used + count);
+    let file = put_file(image, g, sys.pointer, name, m, sheet, count);
+    slots::put_slot(image, g, slot, in_use + 1, &file.entry);
+    system::put_system(image, g, file.next, free - count, used + count);
 }
 
 // Writes a new directory sector with its first entry, and links it from the last one.
@@ -175,19 +172,16 @@ pub fn save_and_grow(image: &mut [u8], g: Geometry, name: Name, m: Numbers, shee
     ensures { GrownBy g image.old image.new name.bytes (module_of m sheet.now) result }
 {
     let sys = system::system_of(image, g);
-    let pointer = sys.pointer;
     let free = sys.free as usize;
     let used = sys.used as usize;
     let last = directory::last_sector(image, g);
     let count = modules::sectors_for(sheet.len());
-    let file = put_file(image, g, pointer, name, m, sheet, count);
-    let entry = file.entry;
-    let next = file.next;
-    let Link::To(new) = next else {
-        return Grown { new: last, last };
+    let file = put_file(image, g, sys.pointer, name, m, sheet, count);
+    let Link::To(new) = file.next else {
+        unreachable!();
     };
     let rest = disc::link_of(image, g, new);
-    grow(image, g, last, new, &entry);
+    grow(image, g, last, new, &file.entry);
     system::put_system(image, g, rest, free - (count + 1), used + count);
     Grown { new, last }
 }

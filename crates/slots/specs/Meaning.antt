@@ -1,11 +1,17 @@
--- What the code's struct says of an entry.
+-- What the code's structs say of a slot and of an entry.
 -- Assumes nothing.
 use Rattle.std.specs.Prelude.{◌≡◌}
-use Rattle.format.specs.Layout.{Slot, length_of, attribute_of, first_of, last_of}
+use Rattle.format.specs.Geometry.{Disc}
+use Rattle.format.specs.Layout.{Slot, slot_at, length_of, attribute_of, first_of, last_of}
 use Rattle.geometry.specs.Meaning.{geo}
 use Rattle.disc.specs.Meaning.{meaning, Inside}
 use Rattle.geometry.specs.declared.Geometry.{Geometry}
 use Rattle.slots.specs.declared.Entry.{Entry}
+use Rattle.slots.specs.declared.slot_no.SlotNo.{SlotNo}
+
+-- the slot that stands there
+abbrev pub slot_of : Disc → SlotNo → Slot
+slot_of d s = slot_at d s.sector.0 s.index
 
 -- what the entry in slot s says
 pub record EntryIs (g : Geometry) (e : Entry) (s : Slot) : Type 0 where

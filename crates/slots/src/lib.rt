@@ -5,16 +5,19 @@
 ghost use Rattle.std.specs.Prelude.{◌≡◌, ◌+◌, ◌≤◌, ◌<◌, length, take, drop, set};
 ghost use Rattle.lists.specs.Lists.{byte, same};
 ghost use Rattle.format.specs.Geometry.{sector};
-ghost use Rattle.format.specs.Layout.{slots_each, slot_start, in_use_offset, slot_at, free_slot, name_of, length_of, first_of, last_of, attribute_of};
+ghost use Rattle.format.specs.Layout.{slots_each, slot_start, in_use_offset, free_slot, name_of, length_of, first_of, last_of, attribute_of};
 ghost use Rattle.format.specs.Layout.{is_attribute, is_protected, protected_as};
 ghost use Rattle.format.specs.Effects.{with_slot};
 ghost use Rattle.geometry.specs.Meaning.{geo, sectors_of, Image};
 ghost use Rattle.disc.specs.Meaning.{meaning, Inside, led, Reaches};
-ghost use Rattle.slots.specs.Meaning.{EntryIs};
+ghost use Rattle.slots.specs.Meaning.{slot_of, EntryIs};
 
-use disc::{Link, Step};
+mod slot_no;
+
+use disc::{Link, Sector};
 use geometry::{Geometry, SectorNo};
 use names::Name;
+pub use slot_no::SlotNo;
 
 // ---- the attribute: the only code that knows its values
 
@@ -82,31 +85,41 @@ pub fn same_at(image: &[u8], g: Geometry, n: SectorNo, k: usize, bytes: &[u8]) -
     byte_loops::same_at(image, geometry::start_of(g, n) + k, bytes)
 }
 
-pub fn slot_free(image: &[u8], g: Geometry, n: SectorNo, i: usize) -> bool
-    requires { Image g image.now × (n.0 < g.sectors) × (i < slots_each) }
-    ensures { result ≡ free_slot (slot_at (sectors_of g image.now) n.0 i) }
+pub fn slot_free(image: &[u8], g: Geometry, slot: SlotNo) -> bool
+    requires { Image g image.now × (slot.sector.0 < g.sectors) }
+    ensures { result ≡ free_slot (slot_of (sectors_of g image.now) slot) }
 {
-    byte_loops::are_zero(image, geometry::start_of(g, n) + slot_start(i), 16)
+    byte_loops::are_zero(
+        image,
+        geometry::start_of(g, slot.sector) + slot_start(slot.index),
+        16,
+    )
 }
 
-// Whether slot i has this name.
-pub fn slot_named(image: &[u8], g: Geometry, n: SectorNo, i: usize, name: Name) -> bool
-    requires { Image g image.now × (n.0 < g.sectors) × (i < slots_each) }
-    ensures { result ≡ same (name_of (slot_at (sectors_of g image.now) n.0 i)) name.bytes }
+// Whether a slot has this name.
+pub fn slot_named(image: &[u8], g: Geometry, slot: SlotNo, name: Name) -> bool
+    requires { Image g image.now × (slot.sector.0 < g.sectors) }
+    ensures { result ≡ same (name_of (slot_of (sectors_of g image.now) slot)) name.bytes }
 {
     let nine = name.bytes;
-    same_at(image, g, n, slot_start(i), &nine)
+    same_at(image, g, slot.sector, slot_start(slot.index), &nine)
 }
 
-// Whether slot i of sector n and slot j of sector m have the same name.
-pub fn same_names(image: &[u8], g: Geometry, n: SectorNo, i: usize, m: SectorNo, j: usize) -> bool
-    requires { Image g image.now × (n.0 < g.sectors) × (i < slots_each) × (m.0 < g.sectors) × (j < slots_each) }
+// Whether two slots have the same name.
+pub fn same_names(image: &[u8], g: Geometry, slot: SlotNo, other: SlotNo) -> bool
+    requires { Image g image.now × (slot.sector.0 < g.sectors) × (other.sector.0 < g.sectors) }
     ensures { let d = sectors_of g image.now in
-        result ≡ same (name_of (slot_at d n.0 i)) (name_of (slot_at d m.0 j)) }
+        result ≡ same (name_of (slot_of d slot)) (name_of (slot_of d other)) }
 {
-    let start = geometry::start_of(g, m) + slot_start(j);
+    let start = geometry::start_of(g, other.sector) + slot_start(other.index);
     let end = start + 9;
-    same_at(image, g, n, slot_start(i), &image[start..end])
+    same_at(
+        image,
+        g,
+        slot.sector,
+        slot_start(slot.index),
+        &image[start..end],
+    )
 }
 
 // ---- fields read
@@ -119,67 +132,68 @@ pub fn in_use_of(image: &[u8], g: Geometry, n: SectorNo) -> u8
     disc::byte_of(image, g, n, IN_USE)
 }
 
-// The length in sectors of the file of the entry in slot i.
-pub fn length_of(image: &[u8], g: Geometry, n: SectorNo, i: usize) -> u16
-    requires { Image g image.now × (n.0 < g.sectors) × (i < slots_each) }
-    ensures { result ≡ length_of (slot_at (sectors_of g image.now) n.0 i) }
+// The length in sectors of the file of the entry in a slot.
+pub fn length_of(image: &[u8], g: Geometry, slot: SlotNo) -> u16
+    requires { Image g image.now × (slot.sector.0 < g.sectors) }
+    ensures { result ≡ length_of (slot_of (sectors_of g image.now) slot) }
 {
-    disc::word_of(image, g, n, slot_start(i) + LENGTH)
+    disc::word_of(image, g, slot.sector, slot_start(slot.index) + LENGTH)
 }
 
 // Where its pair of the first sector leads: a step, for the walk along the file.
-pub fn first_step(image: &[u8], g: Geometry, n: SectorNo, i: usize) -> Step
-    requires { Image g image.now × (n.0 < g.sectors) × (i < slots_each) }
-    ensures { (led result ≡ first_of (geo g) (slot_at (sectors_of g image.now) n.0 i)) × Reaches g result }
+pub fn first_step(image: &[u8], g: Geometry, slot: SlotNo) -> Link<Sector>
+    requires { Image g image.now × (slot.sector.0 < g.sectors) }
+    ensures { (led result ≡ first_of (geo g) (slot_of (sectors_of g image.now) slot)) × Reaches g result }
 {
-    disc::step_of(image, g, n, slot_start(i) + FIRST)
+    disc::step_of(image, g, slot.sector, slot_start(slot.index) + FIRST)
 }
 
 // Where its pair of the last sector leads.
-pub fn last_of(image: &[u8], g: Geometry, n: SectorNo, i: usize) -> Link
-    requires { Image g image.now × (n.0 < g.sectors) × (i < slots_each) }
-    ensures { (meaning result ≡ last_of (geo g) (slot_at (sectors_of g image.now) n.0 i)) × Inside g result }
+pub fn last_of(image: &[u8], g: Geometry, slot: SlotNo) -> Link<SectorNo>
+    requires { Image g image.now × (slot.sector.0 < g.sectors) }
+    ensures { (meaning result ≡ last_of (geo g) (slot_of (sectors_of g image.now) slot)) × Inside g result }
 {
-    disc::pair_of(image, g, n, slot_start(i) + LAST)
+    disc::pair_of(image, g, slot.sector, slot_start(slot.index) + LAST)
 }
 
-pub fn attribute_of(image: &[u8], g: Geometry, n: SectorNo, i: usize) -> u8
-    requires { Image g image.now × (n.0 < g.sectors) × (i < slots_each) }
-    ensures { result ≡ attribute_of (slot_at (sectors_of g image.now) n.0 i) }
+pub fn attribute_of(image: &[u8], g: Geometry, slot: SlotNo) -> u8
+    requires { Image g image.now × (slot.sector.0 < g.sectors) }
+    ensures { result ≡ attribute_of (slot_of (sectors_of g image.now) slot) }
 {
-    disc::byte_of(image, g, n, slot_start(i) + ATTRIBUTE)
+    disc::byte_of(image, g, slot.sector, slot_start(slot.index) + ATTRIBUTE)
 }
 
 // What an entry says of its file.
 #[derive(Clone, Copy)]
 pub struct Entry {
     pub length: u16,
-    pub first: Link,
-    pub last: Link,
+    pub first: Link<SectorNo>,
+    pub last: Link<SectorNo>,
     pub attribute: u8,
 }
 
-pub fn entry_of(image: &[u8], g: Geometry, n: SectorNo, i: usize) -> Entry
-    requires { Image g image.now × (n.0 < g.sectors) × (i < slots_each) }
-    ensures { EntryIs g result (slot_at (sectors_of g image.now) n.0 i) }
+pub fn entry_of(image: &[u8], g: Geometry, slot: SlotNo) -> Entry
+    requires { Image g image.now × (slot.sector.0 < g.sectors) }
+    ensures { EntryIs g result (slot_of (sectors_of g image.now) slot) }
 {
     Entry {
-        length: length_of(image, g, n, i),
-        first: disc::pair_of(image, g, n, slot_start(i) + FIRST),
-        last: last_of(image, g, n, i),
-        attribute: attribute_of(image, g, n, i),
+        length: length_of(image, g, slot),
+        first: disc::pair_of(image, g, slot.sector, slot_start(slot.index) + FIRST),
+        last: last_of(image, g, slot),
+        attribute: attribute_of(image, g, slot),
     }
 }
 
 // ---- written
 
-// Writes the bytes of slot i of directory sector n, and how many entries of the sector are in use.
-pub fn put_slot(image: &mut [u8], g: Geometry, n: SectorNo, i: usize, in_use: u8, bytes: &[u8; 16])
-    requires { Image g image.old × (n.0 < g.sectors) × (i < slots_each) }
+// Writes the bytes of a slot, and how many entries of its sector are in use.
+pub fn put_slot(image: &mut [u8], g: Geometry, slot: SlotNo, in_use: u8, bytes: &[u8; 16])
+    requires { Image g image.old × (slot.sector.0 < g.sectors) }
     ensures { let d = sectors_of g image.old in
-        sectors_of g image.new ≡ set d n.0 (with_slot (sector d n.0) i in_use bytes.now) }
+        let n = slot.sector.0 in
+        sectors_of g image.new ≡ set d n (with_slot (sector d n) slot.index in_use bytes.now) }
 {
     let count = [in_use];
-    disc::put(image, g, n, IN_USE, &count);
-    disc::put(image, g, n, slot_start(i), bytes);
+    disc::put(image, g, slot.sector, IN_USE, &count);
+    disc::put(image, g, slot.sector, slot_start(slot.index), bytes);
 }

@@ -9,7 +9,7 @@ ghost use Rattle.geometry.specs.Meaning.{geo, sectors_of, Image};
 ghost use Rattle.disc.specs.Meaning.{meaning, Inside, led, Reaches};
 ghost use Rattle.system.specs.Meaning.{SystemOf};
 
-use disc::{Link, Step};
+use disc::{Link, Sector};
 use geometry::{Geometry, SectorNo};
 
 pub const SYSTEM: SectorNo = SectorNo(0);
@@ -28,7 +28,7 @@ pub const DISC_NAME: usize = 0x18;
 pub const VERSION: usize = 0x40;
 
 // Where the directory pointer leads.
-pub fn directory_pointer(image: &[u8], g: Geometry) -> Link
+pub fn directory_pointer(image: &[u8], g: Geometry) -> Link<SectorNo>
     requires { Image g image.now }
     ensures { (meaning result ≡ directory_pointer (geo g) (sectors_of g image.now)) × Inside g result }
 {
@@ -36,7 +36,7 @@ pub fn directory_pointer(image: &[u8], g: Geometry) -> Link
 }
 
 // Where the free pointer leads: a step, for the walk along the free chain.
-pub fn free_step(image: &[u8], g: Geometry) -> Step
+pub fn free_step(image: &[u8], g: Geometry) -> Link<Sector>
     requires { Image g image.now }
     ensures { (led result ≡ free_pointer (geo g) (sectors_of g image.now)) × Reaches g result }
 {
@@ -59,7 +59,7 @@ pub fn used_count(image: &[u8], g: Geometry) -> u16
 
 #[derive(Clone, Copy)]
 pub struct System {
-    pub pointer: Link,
+    pub pointer: Link<SectorNo>,
     pub free: u16,
     pub used: u16,
 }
@@ -80,7 +80,7 @@ pub fn system_of(image: &[u8], g: Geometry) -> System
 }
 
 // Writes another free pointer and other counts.
-pub fn put_system(image: &mut [u8], g: Geometry, pointer: Link, free: usize, used: usize)
+pub fn put_system(image: &mut [u8], g: Geometry, pointer: Link<SectorNo>, free: usize, used: usize)
     requires { Image g image.old × Inside g pointer }
     ensures { let d = sectors_of g image.old in
         sectors_of g image.new ≡ written (system_write (geo g) d (meaning pointer) free used ∷ []) d }
@@ -88,11 +88,8 @@ pub fn put_system(image: &mut [u8], g: Geometry, pointer: Link, free: usize, use
     let address = disc::address_of(g, pointer);
     let pair = [address.sector, address.track];
     disc::put(image, g, SYSTEM, FREE_POINTER, &pair);
-    let counts = [
-        (free % 256) as u8,
-        (free / 256 % 256) as u8,
-        (used % 256) as u8,
-        (used / 256 % 256) as u8,
-    ];
+    let free_bytes = byte_loops::word_bytes(free);
+    let used_bytes = byte_loops::word_bytes(used);
+    let counts = [free_bytes[0], free_bytes[1], used_bytes[0], used_bytes[1]];
     disc::put(image, g, SYSTEM, FREE_COUNT, &counts);
 }

@@ -14,7 +14,6 @@ ghost use Rattle.totals.specs.Totals.{after_sheet};
 ghost use Rattle.tandos.specs.Meaning.{check_answer};
 
 use answers::Filled;
-use fsck::Checked;
 use geometry::Stated;
 use reading::Reading;
 
@@ -34,17 +33,17 @@ pub fn tandos_check(image: &[u8], sectors: u32, arrangement: u32) -> CheckNumber
         arrangement,
     };
     match fsck::check(image, kind) {
-        Checked::Size => CheckNumbers {
-            number: refusals::SIZE,
-            rule: 0,
-        },
-        Checked::Sound => CheckNumbers {
+        Ok(Ok(())) => CheckNumbers {
             number: refusals::DONE,
             rule: 0,
         },
-        Checked::Broken(rule) => CheckNumbers {
+        Ok(Err(rule)) => CheckNumbers {
             number: refusals::DONE,
-            rule: rule as u32,
+            rule: u32::from(rule),
+        },
+        Err(refusal) => CheckNumbers {
+            number: u32::from(refusal),
+            rule: 0,
         },
     }
 }
@@ -56,7 +55,7 @@ pub fn tandos_list(image: &[u8], sectors: u32, arrangement: u32, buffer: &mut [u
         sectors,
         arrangement,
     };
-    listing::list(image, kind, buffer)
+    Filled::from(listing::list(image, kind, buffer))
 }
 
 pub fn tandos_read(
@@ -73,7 +72,7 @@ pub fn tandos_read(
         sectors,
         arrangement,
     };
-    reading::read(image, kind, name, buffer)
+    Reading::from(reading::read(image, kind, name, buffer))
 }
 
 pub fn tandos_save(
@@ -94,7 +93,7 @@ pub fn tandos_save(
         sectors,
         arrangement,
     };
-    saving::save(image, kind, name, page, start, transfer, sheet, writes)
+    Filled::from(saving::save(image, kind, name, page, start, transfer, sheet, writes))
 }
 
 pub fn tandos_delete(
@@ -111,7 +110,7 @@ pub fn tandos_delete(
         sectors,
         arrangement,
     };
-    deleting::delete(image, kind, name, writes)
+    Filled::from(deleting::delete(image, kind, name, writes))
 }
 
 pub fn tandos_rename(
@@ -129,7 +128,7 @@ pub fn tandos_rename(
         sectors,
         arrangement,
     };
-    renaming::rename(image, kind, old, new, writes)
+    Filled::from(renaming::rename(image, kind, old, new, writes))
 }
 
 pub fn tandos_protect(
@@ -147,7 +146,7 @@ pub fn tandos_protect(
         sectors,
         arrangement,
     };
-    protecting::protect(image, kind, name, on, writes)
+    Filled::from(protecting::protect(image, kind, name, on, writes))
 }
 
 // Writes the sectors of a list of writes.
@@ -158,7 +157,7 @@ pub fn tandos_replay(image: &mut [u8], sectors: u32, arrangement: u32, writes: &
         sectors,
         arrangement,
     };
-    replaying::replay(image, kind, writes)
+    refusals::number(replaying::replay(image, kind, writes))
 }
 
 // Threads every sector that neither the directory nor a file meets into a new free chain.
@@ -169,7 +168,7 @@ pub fn tandos_repair(image: &mut [u8], sectors: u32, arrangement: u32) -> u32
         sectors,
         arrangement,
     };
-    repairing::repair(image, kind)
+    refusals::number(repairing::repair(image, kind))
 }
 
 pub fn tandos_blank(image: &mut [u8], sectors: u32, arrangement: u32, name: &[u8]) -> u32
@@ -179,7 +178,7 @@ pub fn tandos_blank(image: &mut [u8], sectors: u32, arrangement: u32, name: &[u8
         sectors,
         arrangement,
     };
-    blank::blank(image, kind, name)
+    refusals::number(blank::blank(image, kind, name))
 }
 
 // The number of a view with these arguments.
@@ -220,5 +219,5 @@ pub fn tandos_view_start(
 pub fn tandos_add_sheet(totals: &mut [u32], sheet: &[u8]) -> u32
     ensures { record { number = result; totals = totals.new } ≡ after_sheet totals.old sheet.now }
 {
-    totals::add_sheet(totals, sheet)
+    refusals::number(totals::add_sheet(totals, sheet))
 }

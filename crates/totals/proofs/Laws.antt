@@ -1,155 +1,71 @@
 -- Laws of sheets and sums, as the code meets them.
 -- Assumes nothing.
-use Rattle.std.specs.Prelude.{◌≡◌, Bool, true, false, cond, List, [], ◌∷◌, ◌++◌, set, take, drop, eqb, leb}
-use Rattle.std.proofs.Math.Path.{refl, ap, subst}
-use Rattle.std.proofs.Common.{sym, ap₂, ◌∙◌, arith, add-zero, add-one, length-set, length-drop, get_or-drop, drop-drop, take-suc, take-suc-set}
-use Prim.Native.Nat.{ℕ, zero, suc, ◌+◌, ◌*◌, ◌-◌, ◌≤◌, ◌<◌}
-use Rattle.std.proofs.Math.Bool.{and-false}
+use Rattle.std.specs.declared.option.Option.{Option}
+use Rattle.std.specs.declared.result.Result.{Result}
+use Rattle.std.proofs.Common.{◌≡◌, ◌≢◌, ℕ, ◌+◌, ◌-◌, ◌<◌, ◌≤◌, Bool, true, false, is_err, zero, suc, cond, eqb, leb}
+use Rattle.std.proofs.Common.{List, [], ◌∷◌, length, get_or, set, take, drop, Ok, Err, Some, None, refl, sym, ap, ◌∙◌, arith, length-set, get_or-set_same}
+use Rattle.std.proofs.Math.Bool.{and-false, and-true}
+use Rattle.std.proofs.Math.Option as math
+use Rattle.std.proofs.Math.Option.{none, some}
 use Rattle.std.proofs.lemmas.Bool.{false≢true}
-use Rattle.std.proofs.Math.Option.{Option, none, some}
-use Rattle.std.proofs.Math.ListN.{length, get_or}
-use Rattle.std.proofs.Math.Seq.{get_or-set_same}
-use borrow.Author.Tests.{lt-leb, le-leb, leb-true, leb-false, eq-eqb, ne_eqb, eqb-true}
-use Rattle.format.specs.Refusals.{Try, Refusal, BAD-SHEET, number_of, refused, ok, ◌>>=◌, ◌>>◌, refuse◌if◌, ◌or_refuse◌, number, value_or}
-use Rattle.format.proofs.RefusalLaws.{refusal_number}
-use Rattle.lists.specs.Lists.{is_some, byte, word_at}
-use Rattle.lists.specs.ListLaws.{and_true, true_and, all_true, true_all, all_get_d, all_set}
-use Rattle.totals.specs.Totals.{Credit, credit_of, is_worker, and_then, in_front, credits_of, add_credit, add_credits, within, max_total, workers, SheetAnswer, add_sheet, after_sheet}
-use Rattle.totals.specs.Meaning.{body_at, is_record, Running, Credits, tallied, too_many, Adds, Tallies}
+use Rattle.std.proofs.lemmas.List.Recursion.{and_fails_at, and_set}
+use Rattle.std.proofs.lemmas.Bool.Decides.{nat_tests}
+use Rattle.std.specs.Str.{bytes_eq}
+use borrow.Author.Tests.{lt-leb, le-leb, eq-eqb, ne_eqb}
+use Rattle.format.specs.Refusals.{TOTAL, refused, ok, ◌>>=◌, ◌>>◌, refuse◌if◌, ◌or_refuse◌, number, value_or}
+use Rattle.lists.specs.Lists.{byte, word_at}
+use Rattle.refusals.specs.Meaning.{reason, number_of_answer, number_of_refusal}
+use Rattle.refusals.specs.declared.Refusal.{Refusal}
+use Rattle.refusals.specs.declared.Refusal.TheVariants.{BadSheet}
+use Rattle.totals.specs.declared.Credit as code
+use Rattle.totals.specs.Totals.{Credit, is_worker, and_then, credits_of, add_credit, add_credits}
+use Rattle.totals.specs.Totals.{within, max_total, workers, SheetAnswer, add_sheet, after_sheet}
+use Rattle.totals.specs.Meaning.{said, record_of, read_front, end_of, sheet_check, Running, tallied, too_many, told}
 
--- ---- the records of a sheet, from a position on
-
-record_first : (s : List ℕ) → 5 ≤ length s → credits_of s ≡ in_front (byte s 0) (body_at s 0) (credits_of (drop 5 s))
-unfolding credits_of
-record_first [] h = absurd (omega arith)
-record_first (k ∷ []) h = absurd (omega arith)
-record_first (k ∷ a ∷ []) h = absurd (omega arith)
-record_first (k ∷ a ∷ b ∷ []) h = absurd (omega arith)
-record_first (k ∷ a ∷ b ∷ c ∷ []) h = absurd (omega arith)
-record_first (k ∷ a ∷ b ∷ c ∷ d ∷ rest) h = refl
-
-cut_first : (s : List ℕ) → length s < 5 → (length s ≡ 1 → ⊥) → none ≡ credits_of s
-unfolding credits_of
-cut_first [] h n = refl
-cut_first (k ∷ []) h n = absurd (n refl)
-cut_first (k ∷ a ∷ []) h n = refl
-cut_first (k ∷ a ∷ b ∷ []) h n = refl
-cut_first (k ∷ a ∷ b ∷ c ∷ []) h n = refl
-cut_first (k ∷ a ∷ b ∷ c ∷ d ∷ rest) h n = absurd (omega arith)
-
-end_first : (s : List ℕ) → length s ≡ 1 → cond (eqb (byte s 0) 0) (some []) none ≡ credits_of s
-unfolding credits_of
-end_first [] h = absurd (omega arith)
-end_first (k ∷ []) h = refl
-end_first (k ∷ a ∷ rest) h = absurd (omega arith)
-
-module _ (s : List ℕ) (k : ℕ) where
-  record_at : k + 5 ≤ length s → credits_of (drop k s) ≡ in_front (byte s k) (body_at s k) (credits_of (drop (k + 5) s))
-  record_at h = record_first (drop k s) (omega (arith, length-drop k s)) ∙ simp (get_or-drop, drop-drop, add-zero) refl
-
-  pub cut_at : length s - k < 5 → (length s - k ≡ 1 → ⊥) → none ≡ credits_of (drop k s)
-  cut_at h n = cut_first (drop k s) (omega (arith, length-drop k s)) (λ e. n (sym (length-drop k s) ∙ e))
-
-  pub end_at : length s - k ≡ 1 → cond (eqb (byte s k) 0) (some []) none ≡ credits_of (drop k s)
-  end_at h =
-      let here : byte (drop k s) 0 ≡ byte s k = simp (get_or-drop, add-zero) refl in
-      ap (λ (b : ℕ). cond (eqb b 0) (some []) none) (sym here) ∙ end_first (drop k s) (length-drop k s ∙ h)
-
-  -- the record's two numbers, where they stand in the sheet
-  worker_at : word_at s (k + 1) ≡ (credit_of (body_at s k)).worker
-  worker_at = let e : k + 1 + 1 ≡ k + 2 = omega arith in ap (λ (j : ℕ). byte s (k + 1) + 256 * byte s j) e
-
-  pieces_at : word_at s (k + 3) ≡ (credit_of (body_at s k)).pieces
-  pieces_at = let e : k + 3 + 1 ≡ k + 4 = omega arith in ap (λ (j : ℕ). byte s (k + 3) + 256 * byte s j) e
-
--- ---- a record that a sheet may have, and one that it may not
+-- ---- a record
 
 pub worker_range : (w : ℕ) → is_worker w ≡ true → (1 ≤ w) × (w ≤ workers)
-worker_range w h = let both = and_true (leb 1 w) (leb w workers) h in (leb-true 1 w both.0, leb-true w workers both.1)
+worker_range w h = (grind (arith, nat_tests), grind (arith, nat_tests))
 
-good_front : (kind : ℕ) (body : List ℕ) (cs : Option (List Credit)) → is_record kind body ≡ true → is_some (in_front kind body cs) ≡ is_some cs
-good_front kind body cs h = by (eqb kind 1) (is_worker (credit_of body).worker) (eqb kind 2) cs h
-  where
-    by : (one is two : Bool) (cs : Option (List Credit)) → cond one is two ≡ true →
-        is_some (cond one (cond is (and_then (credit_of body) cs) none) (cond two cs none)) ≡ is_some cs
-    by true true two none h = refl
-    by true true two (some cs) h = refl
-    by true false two cs h = absurd (false≢true h)
-    by false is true cs h = refl
-    by false is false cs h = absurd (false≢true h)
+-- what is read, by the tests of its kind and its worker
+abbrev read_as : (c : code.Credit) (one is two : Bool) → Result (Option code.Credit) Refusal
+read_as c one is two = cond one (cond is (Ok (Some c)) (Err BadSheet)) (cond two (Ok None) (Err BadSheet))
 
-bad_front : (kind : ℕ) (body : List ℕ) (cs : Option (List Credit)) → is_record kind body ≡ false → in_front kind body cs ≡ none
-bad_front kind body cs h = by (eqb kind 1) (is_worker (credit_of body).worker) (eqb kind 2) h
-  where
-    by : (one is two : Bool) → cond one is two ≡ false → cond one (cond is (and_then (credit_of body) cs) none) (cond two cs none) ≡ none
-    by true true two h = absurd (false≢true (sym h))
-    by true false two h = refl
-    by false is true h = absurd (false≢true (sym h))
-    by false is false h = refl
+bad_read : (c : code.Credit) (one is two : Bool) (e : Refusal) → read_as c one is two ≡ Err e → e ≡ BadSheet
+bad_read c true true two e h = cc
+bad_read c true false two e h = cc
+bad_read c false is true e h = cc
+bad_read c false is false e h = cc
 
-module _ (s : List ℕ) (k : ℕ) where
-  pub date_record : byte s k ≡ 2 → true ≡ is_record (byte s k) (body_at s k)
-  date_record is = simp is
+good_read : (c d : code.Credit) (one is two : Bool) → read_as c one is two ≡ Ok (Some d) → (c ≡ d) × (is ≡ true)
+good_read c d true true two h = (cc, refl)
+good_read c d true false two h = cc
+good_read c d false is true h = cc
+good_read c d false is false h = cc
 
-  pub other_record : (byte s k ≡ 2 → ⊥) → (byte s k ≡ 1 → ⊥) → false ≡ is_record (byte s k) (body_at s k)
-  other_record n m = simp (ne_eqb (byte s k) 1 m, ne_eqb (byte s k) 2 n)
+front_read : (c : code.Credit) (one is two : Bool) (cs : math.Option (List Credit)) →
+    cond one (cond is (and_then (said c) cs) none) (cond two cs none) ≡ read_front (read_as c one is two) cs
+front_read c true true two cs = refl
+front_read c true false two cs = refl
+front_read c false is true cs = refl
+front_read c false is false cs = refl
 
-  module _ (is : byte s k ≡ 1) where
-    pub low_record : word_at s (k + 1) < 1 → false ≡ is_record (byte s k) (body_at s k)
-    low_record h = simp (is, lt-leb 1 (credit_of (body_at s k)).worker (omega (arith, worker_at s k)))
+module _ (r : List ℕ) where
+  pub bad_record : (e : Refusal) → record_of r ≡ Err e → e ≡ BadSheet
+  bad_record e is = bad_read _ (eqb (byte r 0) 1) (is_worker (word_at r 1)) (eqb (byte r 0) 2) e is
 
-    pub pieces_record : 1 ≤ word_at s (k + 1) → leb (word_at s (k + 1)) workers ≡ is_record (byte s k) (body_at s k)
-    pieces_record l = simp (is, le-leb 1 (credit_of (body_at s k)).worker (omega (arith, worker_at s k)), worker_at s k)
-
-  module _ (h : k + 5 ≤ length s) where
-    pub rest_on : is_record (byte s k) (body_at s k) ≡ true → is_some (credits_of (drop (k + 5) s)) ≡ is_some (credits_of (drop k s))
-    rest_on good = sym (ap is_some (record_at s k h) ∙ good_front (byte s k) (body_at s k) (credits_of (drop (k + 5) s)) good)
-
-    pub record_bad : is_record (byte s k) (body_at s k) ≡ false → none ≡ credits_of (drop k s)
-    record_bad bad = sym (record_at s k h ∙ bad_front (byte s k) (body_at s k) (credits_of (drop (k + 5) s)) bad)
-
--- what a test of the end says
-pub end_some : (r : Bool) (cs : Option (List Credit)) → cond r (some []) none ≡ cs → r ≡ is_some cs
-end_some true cs e = ap is_some e
-end_some false cs e = ap is_some e
-
--- ---- totals copied
-
-pub copied_one : (to from : List ℕ) (i : ℕ) → i < length from → length to ≡ length from → take i to ≡ take i from →
-    take (i + 1) (set to i (get_or from i 0)) ≡ take (i + 1) from
-copied_one to from i h l e =
-    rw add-one (
-    take-suc-set to i (get_or from i 0) (omega arith)
-    ∙ ap (λ (xs : List ℕ). xs ++ (get_or from i 0 ∷ [])) e
-    ∙ sym (take-suc from i 0 h)
-    )
+  pub known_worker : (c : code.Credit) → record_of r ≡ Ok (Some c) → is_worker c.worker ≡ true
+  known_worker c is =
+      let g = good_read _ c (eqb (byte r 0) 1) (is_worker (word_at r 1)) (eqb (byte r 0) 2) is in
+      ap (λ (c : code.Credit). is_worker c.worker) (sym g.0) ∙ g.1
 
 -- ---- totals within the limit
-
--- one of too many
-pub over_at : (ts : List ℕ) (i : ℕ) → i < length ts → max_total < get_or ts i 0 → within ts ≡ false
-over_at [] i h o = absurd (omega arith)
-over_at (t ∷ ts) zero h o = simp (lt-leb t max_total o)
-over_at (t ∷ ts) (suc i) h o = simp (over_at ts i (omega arith) o, and-false (leb t max_total))
-
--- those before a position, and the one there
-pub within_one : (ts : List ℕ) (i : ℕ) → i < length ts → within (take i ts) ≡ true → get_or ts i 0 ≤ max_total → within (take (i + 1) ts) ≡ true
-within_one [] i h w l = absurd (omega arith)
-within_one (t ∷ ts) zero h w l = simp (le-leb t max_total l)
-within_one (t ∷ ts) (suc i) h w l =
-    let both = and_true (leb t max_total) (within (take i ts)) w in
-    let n : suc i + 1 ≡ suc (i + 1) = omega arith in
-    ap (λ (n : ℕ). within (take n (t ∷ ts))) n ∙ true_and both.0 (within_one ts i (omega arith) both.1 l)
 
 -- totals never fall
 within_set : (ts : List ℕ) (i n : ℕ) → within (set ts i (get_or ts i 0 + n)) ≡ true → within ts ≡ true
 within_set [] i n w = refl
-within_set (t ∷ ts) zero n w =
-    let both = and_true (leb (t + n) max_total) (within ts) w in
-    true_and (le-leb t max_total (omega (arith, leb-true (t + n) max_total both.0))) both.1
-within_set (t ∷ ts) (suc i) n w =
-    let both = and_true (leb t max_total) (within (set ts i (get_or ts i 0 + n))) w in
-    true_and both.0 (within_set ts i n both.1)
+within_set (t ∷ ts) zero n w = grind (arith, nat_tests)
+within_set (t ∷ ts) (suc i) n w = grind (arith, nat_tests, within_set ts i n)
 
 within_before : (cs : List Credit) (ts : List ℕ) → within (add_credits cs ts) ≡ true → within ts ≡ true
 unfolding add_credits add_credit
@@ -164,158 +80,179 @@ over_after cs ts o = by (within (add_credits cs ts)) refl
     by true w = absurd (false≢true (sym o ∙ within_before cs ts w))
     by false w = refl
 
-pub low_at : (ts : List ℕ) → within ts ≡ true → (i : ℕ) → i < length ts → get_or ts i 0 ≤ max_total
-low_at ts w i h = leb-true (get_or ts i 0) max_total (all_get_d {P = λ t. leb t max_total ≡ true} i 0 (all_true ts w) h)
+tallied_over : (cs : math.Option (List Credit)) (ts sums : List ℕ) → within ts ≡ false → tallied cs ts ≡ told (too_many cs) sums
+unfolding tallied refuse◌if◌ ◌>>◌
+tallied_over none ts sums o = refl
+tallied_over (some cs) ts sums o = simp (over_after cs ts o)
 
--- ---- one credit
+-- ---- a credit added to sums
 
 pub credit_long : (c : Credit) (ts : List ℕ) → length (add_credit c ts) ≡ length ts
 unfolding add_credit
 credit_long c ts = length-set ts (c.worker - 1) (get_or ts (c.worker - 1) 0 + c.pieces)
 
-module _ (c : Credit) (was sums : List ℕ) (r : Bool) (running : Running was) (does : Credits c was sums r) where
-  credited_running : r ≡ true → Running sums
-  unfolding add_credit
-  credited_running e =
-      let i : ℕ = c.worker - 1 in
-      let v : ℕ = get_or was i 0 + c.pieces in
-      subst Running (sym (does.added e))
-      (record {
-        long = credit_long c was ∙ running.long;
-        low = true_all (all_set i v (all_true was running.low) (sym does.fits ∙ e));
-      })
-
-  credited_over : 1 ≤ c.worker → c.worker ≤ workers → r ≡ false → within (add_credit c was) ≡ false
-  unfolding add_credit
-  credited_over l h e =
-      let i : ℕ = c.worker - 1 in
-      let v : ℕ = get_or was i 0 + c.pieces in
-      let fits : i < length was = omega (arith, running.long) in
-      over_at (add_credit c was) i (omega (arith, credit_long c was))
-      (omega (arith, get_or-set_same was i v 0 fits, leb-false v max_total (sym does.fits ∙ e)))
-
--- ---- a record added to sums
-
-tallied_then : (c : Credit) (cs : Option (List Credit)) (sums : List ℕ) → tallied (and_then c cs) sums ≡ tallied cs (add_credit c sums)
+tallied_then : (c : Credit) (cs : math.Option (List Credit)) (sums : List ℕ) → tallied (and_then c cs) sums ≡ tallied cs (add_credit c sums)
 unfolding tallied add_credits
 tallied_then c none sums = refl
 tallied_then c (some cs) sums = refl
 
-tallied_over : (cs : Option (List Credit)) (sums : List ℕ) → within sums ≡ false → tallied cs sums ≡ refused (too_many cs)
-unfolding tallied refuse◌if◌ ◌>>◌
-tallied_over none sums o = refl
-tallied_over (some cs) sums o = simp (over_after cs sums o)
-
-module _ (s : List ℕ) (k : ℕ) (was : List ℕ) (running : Running was) where
-  pub date_adds : byte s k ≡ 2 → Adds s k was was true
-  date_adds is = record { added = λ e. (running, λ cs. simp is); over = λ e. absurd (false≢true (sym e)) }
-
-  module _ (is : is_record (byte s k) (body_at s k) ≡ true) (other : byte s k ≡ 2 → ⊥) where
-    one : byte s k ≡ 1
-    one = by (eqb (byte s k) 1) refl
-      where
-        by : (b : Bool) → eqb (byte s k) 1 ≡ b → byte s k ≡ 1
-        by true e = eqb-true (byte s k) 1 e
-        by false e =
-            let no : is_record (byte s k) (body_at s k) ≡ false = simp (e, ne_eqb (byte s k) 2 other) in
-            absurd (false≢true (sym no ∙ is))
-
-    worker_is : is_worker (credit_of (body_at s k)).worker ≡ true
-    worker_is = sym (ap (λ (n : ℕ). is_record n (body_at s k)) one) ∙ is
-
-    pub worker_in : (1 ≤ word_at s (k + 1)) × (word_at s (k + 1) ≤ workers)
-    worker_in = let range = worker_range (credit_of (body_at s k)).worker worker_is in (omega (arith, worker_at s k), omega (arith, worker_at s k))
-
-    front : (cs : Option (List Credit)) → in_front (byte s k) (body_at s k) cs ≡ and_then (credit_of (body_at s k)) cs
-    front cs = simp (one, worker_is)
-
-    pub credit_adds : (w p : ℕ) (sums : List ℕ) (r : Bool) → w ≡ word_at s (k + 1) → p ≡ word_at s (k + 3) →
-        Credits (record { worker = w; pieces = p }) was sums r → Adds s k was sums r
-    credit_adds w p sums r v q did =
-        let c = credit_of (body_at s k) in
-        let same : ◌≡◌ {A = Credit} (record { worker = w; pieces = p }) c =
-        ap₂ (λ (w p : ℕ). record { worker = w; pieces = p }) (v ∙ worker_at s k) (q ∙ pieces_at s k) in
-        let does : Credits c was sums r = subst (λ (c : Credit). Credits c was sums r) same did in
-        let range = worker_range c.worker worker_is in
-        record {
-          added =
-              λ e. (
-                credited_running c was sums r running does e,
-                λ cs. ap (λ (o : Option (List Credit)). tallied o was) (front cs) ∙ tallied_then c cs was ∙ ap (tallied cs) (sym (does.added e)),
-              );
-          over =
-              λ e cs.
-              ap (λ (o : Option (List Credit)). tallied o was) (front cs) ∙ tallied_then c cs was
-              ∙ tallied_over cs (add_credit c was) (credited_over c was sums r running does range.0 range.1 e);
-        }
-
--- ---- the sums while a sheet is read
-
-module _ (s : List ℕ) (k : ℕ) (was sums : List ℕ) where
-  module _ (h : k + 5 ≤ length s) (r : Bool) (adds : Adds s k was sums r) where
-    here : tallied (credits_of (drop k s)) was ≡ tallied (in_front (byte s k) (body_at s k) (credits_of (drop (k + 5) s))) was
-    here = ap (λ (o : Option (List Credit)). tallied o was) (record_at s k h)
-
-    pub tally_on : r ≡ true → tallied (credits_of (drop (k + 5) s)) sums ≡ tallied (credits_of (drop k s)) was
-    tally_on e = sym (here ∙ (adds.added e).1 (credits_of (drop (k + 5) s)))
-
-    pub tally_over : r ≡ false → tallied (credits_of (drop k s)) was ≡ refused (too_many (credits_of (drop (k + 5) s)))
-    tally_over e = here ∙ adds.over e (credits_of (drop (k + 5) s))
-
-  pub tally_bad : none ≡ credits_of (drop k s) → tallied (credits_of (drop k s)) was ≡ refused BAD-SHEET
-  unfolding tallied
-  tally_bad e = ap (λ (o : Option (List Credit)). tallied o was) (sym e)
-
-  pub tally_end : Running was → some [] ≡ credits_of (drop k s) → tallied (credits_of (drop k s)) was ≡ ok was
+module _ (c : Credit) (was : List ℕ) where
+  one_credit : (b : Bool) → within (add_credit c was) ≡ b → tallied (some (c ∷ [])) was ≡ cond b (ok (add_credit c was)) (refused TOTAL)
   unfolding tallied add_credits refuse◌if◌ ◌>>◌
-  tally_end running e = ap (λ (o : Option (List Credit)). tallied o was) (sym e) ∙ simp running.low
+  one_credit true w = simp w
+  one_credit false w = simp w
 
-module _ (s was sums : List ℕ) where
-  pub refused_tally : (e : Refusal) (r : ℕ) → tallied (credits_of s) was ≡ refused e → r ≡ number_of e → Tallies s was sums r
-  unfolding number
-  refused_tally e r is n = record { says = n ∙ ap number (sym is); added = λ z. absurd (refusal_number e (sym n ∙ z)) }
+  module _ (running : Running was) where
+    pub credit_fits : get_or was (c.worker - 1) 0 + c.pieces ≤ max_total → tallied (some (c ∷ [])) was ≡ ok (add_credit c was)
+    unfolding add_credit
+    credit_fits l = one_credit true (and_set within (λ t. leb t max_total) refl (λ t ts. refl) was (c.worker - 1) _ (le-leb _ max_total l) running.low)
 
-  pub done_tally : tallied (credits_of s) was ≡ ok sums → Tallies s was sums 0
-  unfolding number
-  done_tally is = record { says = ap number (sym is); added = λ z. is }
+    pub credit_over : is_worker c.worker ≡ true → max_total < get_or was (c.worker - 1) 0 + c.pieces → tallied (some (c ∷ [])) was ≡ refused TOTAL
+    unfolding add_credit
+    credit_over is l =
+        let range = worker_range c.worker is in
+        let i : ℕ = c.worker - 1 in
+        let v : ℕ = get_or was i 0 + c.pieces in
+        let fits : i < length was = omega (arith, running.long) in
+        one_credit false (and_fails_at within (λ t. leb t max_total) refl (λ t ts. refl) (set was i v) i 0
+        (omega (arith, credit_long c was)) (rw (get_or-set_same was i v 0 fits) (lt-leb v max_total l)))
+
+-- what a credit did
+module _ (c : Credit) (was sums : List ℕ) where
+  added : (r : Result (Unit {0}) Refusal) → told r sums ≡ tallied (some (c ∷ [])) was → is_err r ≡ false →
+      (within (add_credit c was) ≡ true) × (sums ≡ add_credit c was)
+  added (Err e) does n = cc
+  added (Ok u) does n = by (within (add_credit c was)) refl
+    where
+      by : (b : Bool) → within (add_credit c was) ≡ b → (b ≡ true) × (sums ≡ add_credit c was)
+      by true w = (refl, let o = does ∙ one_credit c was true w in cc)
+      by false w = let o = does ∙ one_credit c was false w in cc
+
+  left_out : (r : Result (Unit {0}) Refusal) → told r sums ≡ tallied (some (c ∷ [])) was → is_err r ≡ true → within (add_credit c was) ≡ false
+  left_out (Ok u) does n = cc
+  left_out (Err e) does n = by (within (add_credit c was)) refl
+    where
+      by : (b : Bool) → within (add_credit c was) ≡ b → b ≡ false
+      by true w = let o = does ∙ one_credit c was true w in cc
+      by false w = refl
+
+  pub still_running : (r : Result (Unit {0}) Refusal) → told r sums ≡ tallied (some (c ∷ [])) was → Running was → is_err r ≡ false → Running sums
+  still_running r does running n =
+      let did = added r does n in rw did.1 (record { long = credit_long c was ∙ running.long; low = did.0 })
+
+-- ---- a sheet from its read_front on
+
+record_first : (s : List ℕ) → 5 ≤ length s → credits_of s ≡ read_front (record_of (take 5 s)) (credits_of (drop 5 s))
+unfolding credits_of
+record_first [] h = absurd (omega arith)
+record_first (k ∷ []) h = absurd (omega arith)
+record_first (k ∷ a ∷ []) h = absurd (omega arith)
+record_first (k ∷ a ∷ b ∷ []) h = absurd (omega arith)
+record_first (k ∷ a ∷ b ∷ c ∷ []) h = absurd (omega arith)
+record_first (k ∷ a ∷ b ∷ c ∷ d ∷ rest) h = front_read _ (eqb k 1) (is_worker (word_at (a ∷ b ∷ []) 0)) (eqb k 2) (credits_of rest)
+
+end_first : (bs : List ℕ) → length bs < 5 → credits_of bs ≡ cond (bytes_eq bs (0 ∷ [])) (some []) none
+unfolding credits_of
+end_first [] h = refl
+end_first (k ∷ []) h = simp (and-true (eqb k 0))
+end_first (k ∷ a ∷ []) h = simp (and-false (eqb k 0))
+end_first (k ∷ a ∷ b ∷ []) h = simp (and-false (eqb k 0))
+end_first (k ∷ a ∷ b ∷ c ∷ []) h = simp (and-false (eqb k 0))
+end_first (k ∷ a ∷ b ∷ c ∷ d ∷ rest) h = absurd (omega arith)
+
+module _ (bs : List ℕ) (h : length bs < 5) where
+  pub check_end : end_of bs ≡ sheet_check (credits_of bs)
+  check_end = rw (end_first bs h) (by (bytes_eq bs (0 ∷ [])))
+    where
+      by : (b : Bool) → cond b (Ok tt) (Err BadSheet) ≡ sheet_check (cond b (some []) none)
+      by true = refl
+      by false = refl
+
+  pub tally_end : (sums : List ℕ) → Running sums → told (end_of bs) sums ≡ tallied (credits_of bs) sums
+  unfolding tallied add_credits refuse◌if◌ ◌>>◌
+  tally_end sums running = rw (end_first bs h) (by (bytes_eq bs (0 ∷ [])))
+    where
+      by : (b : Bool) → told (cond b (Ok tt) (Err BadSheet)) sums ≡ tallied (cond b (some []) none) sums
+      by true = simp running.low
+      by false = refl
+
+-- the bytes r and those after them
+module _ (s r after : List ℕ) (cut : (r ≡ take 5 s) × (after ≡ drop 5 s) × (length after + 5 ≡ length s)) where
+  cut_first : (o : Result (Option code.Credit) Refusal) → record_of r ≡ o → credits_of s ≡ read_front o (credits_of after)
+  cut_first o is = let e = record_first s (omega arith) in let f = cut.0 in let g = cut.1 in cc
+
+  module _ (e : Refusal) (is : record_of r ≡ Err e) where
+    pub check_bad : Err e ≡ sheet_check (credits_of s)
+    check_bad = simp (cut_first (Err e) is, bad_record r e is)
+
+    pub tally_bad : (sums : List ℕ) → refused (reason e) ≡ tallied (credits_of s) sums
+    unfolding tallied
+    tally_bad sums = simp (cut_first (Err e) is, bad_record r e is)
+
+  pub check_on : (o : Option code.Credit) → record_of r ≡ Ok o → sheet_check (credits_of after) ≡ sheet_check (credits_of s)
+  check_on o is = rw (cut_first (Ok o) is) (by o (credits_of after))
+    where
+      by : (o : Option code.Credit) (cs : math.Option (List Credit)) → sheet_check cs ≡ sheet_check (read_front (Ok o) cs)
+      by None cs = refl
+      by (Some c) none = refl
+      by (Some c) (some cs) = refl
+
+  pub tally_date : record_of r ≡ Ok None → (sums : List ℕ) → tallied (credits_of after) sums ≡ tallied (credits_of s) sums
+  tally_date is sums = simp (cut_first (Ok None) is)
+
+  module _ (c : code.Credit) (is : record_of r ≡ Ok (Some c)) (was sums : List ℕ) (a : Result (Unit {0}) Refusal)
+      (does : told a sums ≡ tallied (some (said c ∷ [])) was) where
+    pub tally_on : is_err a ≡ false → tallied (credits_of after) sums ≡ tallied (credits_of s) was
+    tally_on n = rw ((added (said c) was sums a does n).1, cut_first (Ok (Some c)) is) (sym (tallied_then (said c) (credits_of after) was))
+
+    pub tally_over : is_err a ≡ true → told (too_many (credits_of after)) sums ≡ tallied (credits_of s) was
+    tally_over n =
+        rw (cut_first (Ok (Some c)) is)
+        (sym (tallied_then (said c) (credits_of after) was ∙ tallied_over (credits_of after) _ sums (left_out (said c) was sums a does n)))
 
 -- ---- the cases of the call
 
-abbrev pub sheet_answer : ℕ → List ℕ → SheetAnswer
-sheet_answer n ts = record { number = n; totals = ts }
-
 module _ (ts sheet : List ℕ) where
-  pub other_table : (length ts ≡ workers → ⊥) → sheet_answer 12 ts ≡ after_sheet ts sheet
+  pub other_table : length ts ≢ workers → ◌≡◌ {A = SheetAnswer} (record { number = 12; totals = ts }) (after_sheet ts sheet)
   unfolding after_sheet add_sheet ◌>>◌ ◌>>=◌ refuse◌if◌ ◌or_refuse◌ number value_or
   other_table h = simp (ne_eqb (length ts) workers h)
 
   module _ (long : length ts ≡ workers) where
-    pub lent_over : within ts ≡ false → (r : ℕ) → r ≡ number_of (too_many (credits_of sheet)) → sheet_answer r ts ≡ after_sheet ts sheet
+    pub lent_over : within ts ≡ false →
+        ◌≡◌ {A = SheetAnswer} (record { number = number_of_answer (too_many (credits_of sheet)); totals = ts }) (after_sheet ts sheet)
     unfolding after_sheet add_sheet ◌>>◌ ◌>>=◌ refuse◌if◌ ◌or_refuse◌ number value_or
-    lent_over over r is = by (credits_of sheet) refl
+    lent_over over = by (credits_of sheet) refl
       where
-        by : (o : Option (List Credit)) → credits_of sheet ≡ o → sheet_answer r ts ≡ after_sheet ts sheet
-        by none e = simp (is, eq-eqb (length ts) workers long, e)
-        by (some cs) e = simp (is, eq-eqb (length ts) workers long, e, over)
+        by : (o : math.Option (List Credit)) → credits_of sheet ≡ o →
+            ◌≡◌ {A = SheetAnswer} (record { number = number_of_answer (too_many (credits_of sheet)); totals = ts }) (after_sheet ts sheet)
+        by none e = simp (eq-eqb (length ts) workers long, e)
+        by (some cs) e = simp (eq-eqb (length ts) workers long, e, over)
 
     module _ (low : within ts ≡ true) where
-      tallied_sheet : tallied (credits_of sheet) ts ≡ add_sheet ts sheet
+      sheet_tallied : tallied (credits_of sheet) ts ≡ add_sheet ts sheet
       unfolding tallied add_sheet ◌>>◌ ◌>>=◌ refuse◌if◌ ◌or_refuse◌
-      tallied_sheet = by (credits_of sheet) refl
+      sheet_tallied = by (credits_of sheet) refl
         where
-          by : (o : Option (List Credit)) → credits_of sheet ≡ o → tallied (credits_of sheet) ts ≡ add_sheet ts sheet
+          by : (o : math.Option (List Credit)) → credits_of sheet ≡ o → tallied (credits_of sheet) ts ≡ add_sheet ts sheet
           by none e = simp (eq-eqb (length ts) workers long, e)
           by (some cs) e = simp (eq-eqb (length ts) workers long, e, low)
 
-      module _ (sums : List ℕ) (r : ℕ) (told : Tallies sheet ts sums r) where
-        pub sheet_refused : (r ≡ 0 → ⊥) → sheet_answer r ts ≡ after_sheet ts sheet
-        unfolding after_sheet number value_or
-        sheet_refused n = by (add_sheet ts sheet) refl
-          where
-            by : (t : Try Refusal (List ℕ)) → add_sheet ts sheet ≡ t → sheet_answer r ts ≡ after_sheet ts sheet
-            by (refused e) is = simp (told.says, tallied_sheet, is)
-            by (ok x) is = absurd (n (told.says ∙ ap number (tallied_sheet ∙ is)))
+      pub sheet_refused : (e : Refusal) → refused (reason e) ≡ tallied (credits_of sheet) ts →
+          ◌≡◌ {A = SheetAnswer} (record { number = number_of_refusal e; totals = ts }) (after_sheet ts sheet)
+      unfolding after_sheet number value_or
+      sheet_refused e is = simp (sym (is ∙ sheet_tallied))
 
-        pub sheet_added : r ≡ 0 → sheet_answer 0 sums ≡ after_sheet ts sheet
-        unfolding after_sheet number value_or
-        sheet_added z = simp (sym tallied_sheet ∙ told.added z)
+      pub sheet_added : (sums : List ℕ) → ok sums ≡ tallied (credits_of sheet) ts →
+          ◌≡◌ {A = SheetAnswer} (record { number = 0; totals = sums }) (after_sheet ts sheet)
+      unfolding after_sheet number value_or
+      sheet_added sums is = simp (sym (is ∙ sheet_tallied))
+
+-- ---- what the functions' proofs use
+
+pub ruleset crediting = (credit_fits, credit_over)
+
+pub ruleset checking = (check_on, check_end)
+
+pub ruleset tallying = (known_worker, tally_bad, tally_date, tally_on, tally_over, tally_end, still_running)
+
+pub ruleset adding = (other_table, lent_over, sheet_refused, sheet_added)

@@ -2,13 +2,14 @@
 -- Assumes nothing.
 use Rattle.std.specs.Prelude.{◌≡◌, refl, ℕ, zero, suc, ◌+◌, ◌-◌, ◌≤◌, ◌<◌, Bool, true, false, ◌&&◌, cond, length, get_or, set, eqb}
 use Rattle.std.proofs.Common.{sym, ap, subst, ◌∙◌, get_or-set_same, get_or-set_other, ext_get_or, eqb-true}
+use Rattle.std.proofs.lemmas.List.{map-append}
 use native.Mathlib.Omega.{arith}
 use Rattle.std.proofs.Math.Option
 use Rattle.std.proofs.Math.Option.{Option, none, some}
 use mathlib.Core.List.{List, [], ◌∷◌, ◌++◌, map}
 use Rattle.std.proofs.lemmas.Bool.{eqb-false}
 use Rattle.lists.specs.Lists.{cons_if, filter, joined, sum}
-use Rattle.lists.specs.ListLaws.{All, done, ◌also◌, filter_join}
+use Rattle.lists.specs.ListLaws.{All, done, ◌also◌, all_any, filter_join, filter_whole, sum_join}
 use Rattle.lists.specs.Permutations.{Perm, as_is, skip, swap, next}
 use Rattle.format.specs.Refusals.{◌>>=◌, ◌>>◌, refuse◌if◌, ◌or_refuse◌, number, value_or}
 use Rattle.totals.specs.Totals.{Credit, workers, credit_of, is_worker, and_then, in_front, credits_of, within, add_credit, add_credits, add_sheet, after_sheet}
@@ -82,8 +83,7 @@ sum_credit c ts long range = sum_set ts (c.worker - 1) c.pieces (omega arith)
 -- ---- pieces
 
 pieces_join : (cs ds : List Credit) → pieces_of (cs ++ ds) ≡ pieces_of cs + pieces_of ds
-pieces_join [] ds = omega arith
-pieces_join (c ∷ cs) ds = omega (arith, pieces_join cs ds)
+pieces_join cs ds = rw map-append (sum_join (map (λ (c : Credit). c.pieces) cs) (map (λ (c : Credit). c.pieces) ds))
 
 module _ (p : Credit → Bool) where
   -- the pieces of those records that pass the test
@@ -132,13 +132,10 @@ module _ (p : Credit → Bool) where
 
 -- ---- all totals together
 
-filter_all_of : (cs : List Credit) → filter (λ c. true) cs ≡ cs
-filter_all_of [] = refl
-filter_all_of (c ∷ cs) = ap (λ (cs : List Credit). c ∷ cs) (filter_all_of cs)
-
 pub growth : Growth
 growth ts ss =
-    run_grows (λ c. true) sum each ts ss ∙ ap (λ (cs : List Credit). sum ts + pieces_of cs) (filter_all_of (credits_in (accepted ts ss)))
+    run_grows (λ c. true) sum each ts ss
+    ∙ ap (λ (cs : List Credit). sum ts + pieces_of cs) (filter_whole (λ c. true) (all_any (credits_in (accepted ts ss)) (λ c. refl)))
   where
     each : (c : Credit) (ts : List ℕ) → length ts ≡ workers → Known c → sum (add_credit c ts) ≡ sum ts + (c.pieces + 0)
     each c ts long k = sum_credit c ts long (worker_range c.worker k) ∙ omega arith
@@ -184,7 +181,8 @@ pub orders_end_equal : OrdersEndEqual
 orders_end_equal ts one other p all_one all-other =
     ext_get_or 0 (handed_on ts one) (handed_on ts other) (run_long ts one ∙ sym (run_long ts other)) at
   where
-    grown : (w : ℕ) (ss : List (List ℕ)) → 1 ≤ w → accepted ts ss ≡ ss → get_or (handed_on ts ss) (w - 1) 0 ≡ get_or ts (w - 1) 0 + among (is_of w) (credits_in ss)
+    grown : (w : ℕ) (ss : List (List ℕ)) → 1 ≤ w → accepted ts ss ≡ ss →
+        get_or (handed_on ts ss) (w - 1) 0 ≡ get_or ts (w - 1) 0 + among (is_of w) (credits_in ss)
     grown w ss is all = growth_of_each w is ts ss ∙ ap (λ (ss : List (List ℕ)). get_or ts (w - 1) 0 + among (is_of w) (credits_in ss)) all
 
     at : (i : ℕ) → i < length (handed_on ts one) → get_or (handed_on ts one) i 0 ≡ get_or (handed_on ts other) i 0

@@ -1,20 +1,47 @@
 -- What the code's steps make of a sheet and of sums.
 -- Assumes nothing.
-use Rattle.std.specs.Prelude.{◌≡◌, ℕ, ◌+◌, ◌-◌, Bool, true, false, not, cond, List, [], ◌∷◌, length, get_or, eqb, leb}
-use Rattle.std.proofs.Math.Option.{Option, none, some}
-use Rattle.lists.specs.Lists.{is_some, byte}
-use Rattle.format.specs.Refusals.{Try, Refusal, BAD-SHEET, TOTAL, refused, ok, ◌>>◌, refuse◌if◌, number}
-use Rattle.totals.specs.Totals.{Credit, credit_of, is_worker, in_front, credits_of, add_credit, add_credits, within, max_total, workers}
+use Rattle.std.specs.Prelude.{◌≡◌, ℕ, true, not, cond, List, [], ◌∷◌, length, eqb, Ok, Err, Some, None}
+use Rattle.std.specs.declared.option.Option.{Option}
+use Rattle.std.specs.declared.result.Result.{Result}
+use Rattle.std.specs.Str.{bytes_eq}
+use Rattle.std.proofs.Math.Option as math
+use Rattle.std.proofs.Math.Option.{none, some}
+use Rattle.lists.specs.Lists.{byte, word_at}
+use Rattle.format.specs.Refusals as format
+use Rattle.format.specs.Refusals.{Try, BAD-SHEET, TOTAL, refused, ok, ◌>>◌, refuse◌if◌}
+use Rattle.refusals.specs.Meaning.{reason}
+use Rattle.refusals.specs.declared.Refusal.{Refusal}
+use Rattle.refusals.specs.declared.Refusal.TheVariants.{BadSheet, Total}
+use Rattle.totals.specs.declared.Credit as code
+use Rattle.totals.specs.Totals.{Credit, is_worker, and_then, add_credits, within, workers}
 
 -- ---- a record
 
--- the body of the record at position k
-abbrev pub body_at : List ℕ → ℕ → List ℕ
-body_at s k = byte s (k + 1) ∷ byte s (k + 2) ∷ byte s (k + 3) ∷ byte s (k + 4) ∷ []
+-- what the code's credit says
+abbrev pub said : code.Credit → Credit
+said c = record { worker = c.worker; pieces = c.pieces }
 
--- one that a sheet may have
-abbrev pub is_record : (kind : ℕ) (body : List ℕ) → Bool
-is_record kind body = cond (eqb kind 1) (is_worker (credit_of body).worker) (eqb kind 2)
+-- what a record of five bytes says; nothing for a date
+abbrev pub record_of : List ℕ → Result (Option code.Credit) Refusal
+record_of r =
+    cond (eqb (byte r 0) 1)
+    (cond (is_worker (word_at r 1)) (Ok (Some (record { worker = word_at r 1; pieces = word_at r 3 }))) (Err BadSheet))
+    (cond (eqb (byte r 0) 2) (Ok None) (Err BadSheet))
+
+-- what was read, in front of what follows it
+abbrev pub read_front : Result (Option code.Credit) Refusal → math.Option (List Credit) → math.Option (List Credit)
+read_front (Ok (Some c)) cs = and_then (said c) cs
+read_front (Ok None) cs = cs
+read_front (Err e) cs = none
+
+-- what fewer than five bytes are: a sheet's end, or none
+abbrev pub end_of : List ℕ → Result (Unit {0}) Refusal
+end_of bs = cond (bytes_eq bs (0 ∷ [])) (Ok tt) (Err BadSheet)
+
+-- whether there is a sheet
+abbrev pub sheet_check : math.Option (List Credit) → Result (Unit {0}) Refusal
+sheet_check none = Err BadSheet
+sheet_check (some cs) = Ok tt
 
 -- ---- sums
 
@@ -23,26 +50,17 @@ pub record Running (sums : List ℕ) : Type 0 where
   pub long : length sums ≡ workers
   pub low : within sums ≡ true
 
--- a credit was added, or would bring a sum above the limit
-pub record Credits (c : Credit) (was sums : List ℕ) (r : Bool) : Type 0 where
-  pub fits : r ≡ leb (get_or was (c.worker - 1) 0 + c.pieces) max_total
-  pub added : r ≡ true → sums ≡ add_credit c was
-
 -- what is left of a sheet, added to sums that are within the limit
-unfoldable pub tallied : Option (List Credit) → List ℕ → Try Refusal (List ℕ)
+unfoldable pub tallied : math.Option (List Credit) → List ℕ → Try format.Refusal (List ℕ)
 tallied none sums = refused BAD-SHEET
 tallied (some cs) sums = refuse TOTAL if not (within (add_credits cs sums)) >> ok (add_credits cs sums)
 
--- the refusal where a sum is above the limit already, by what is left of the sheet
-abbrev pub too_many : Option (List Credit) → Refusal
-too_many cs = cond (is_some cs) TOTAL BAD-SHEET
+-- the answer where a sum is above the limit already, by what is left of the sheet
+abbrev pub too_many : math.Option (List Credit) → Result (Unit {0}) Refusal
+too_many none = Err BadSheet
+too_many (some cs) = Err Total
 
--- the record at position k was added, or brings a sum above the limit
-pub record Adds (s : List ℕ) (k : ℕ) (was sums : List ℕ) (r : Bool) : Type 0 where
-  pub added : r ≡ true → Running sums × ((cs : Option (List Credit)) → tallied (in_front (byte s k) (body_at s k) cs) was ≡ tallied cs sums)
-  pub over : r ≡ false → (cs : Option (List Credit)) → tallied (in_front (byte s k) (body_at s k) cs) was ≡ refused (too_many cs)
-
--- a sheet was added, or refused
-pub record Tallies (s was sums : List ℕ) (r : ℕ) : Type 0 where
-  pub says : r ≡ number (tallied (credits_of s) was)
-  pub added : r ≡ 0 → tallied (credits_of s) was ≡ ok sums
+-- the code's answer, with the sums beside it
+abbrev pub told : Result (Unit {0}) Refusal → List ℕ → Try format.Refusal (List ℕ)
+told (Ok u) sums = ok sums
+told (Err e) sums = refused (reason e)

@@ -1,169 +1,139 @@
 // Request d: weekly totals from the sheets.
 #![tactic(auto)]
 
-ghost use Rattle.std.specs.Prelude.{◌≡◌, ◌+◌, ◌-◌, ◌≤◌, ◌<◌, true, cond, [], length, drop};
-ghost use Rattle.std.proofs.Math.Option.{none, some};
-ghost use Rattle.lists.specs.Lists.{is_some, byte, word_at};
-ghost use Rattle.format.specs.Refusals.{number_of};
-ghost use Rattle.totals.specs.Totals.{credits_of, within, workers, after_sheet};
-ghost use Rattle.totals.specs.Meaning.{body_at, is_record, Running, Credits, too_many, Adds, Tallies};
+ghost use Rattle.std.specs.Prelude.{◌≡◌, [], ◌∷◌, true};
+ghost use Rattle.std.proofs.Math.Option.{some};
+ghost use Rattle.totals.specs.Totals.{credits_of, is_worker, within, after_sheet};
+ghost use Rattle.totals.specs.Meaning.{said, record_of, end_of, sheet_check, Running, tallied, too_many, told};
+ghost use Rattle.refusals.specs.Meaning.{number_of_answer};
+
+use refusals::Refusal;
 
 const WORKERS: usize = 500;
 
+// The most that a total may be.
 const MOST: u32 = 1_000_000_000;
 
-// The sixteen bits at position k.
-fn word_at(sheet: &[u8], k: usize) -> u16
-    requires { k + 1 < length sheet.now }
-    ensures { result ≡ word_at sheet.now k }
-{
-    byte_loops::word(sheet[k], sheet[k + 1])
+// A sheet's records are a kind and four bytes; its end is a kind alone.
+const RECORD: usize = 5;
+
+const END: u8 = 0;
+
+const CREDIT: u8 = 1;
+
+const DATE: u8 = 2;
+
+// What a kind 1 record says; its worker is 1 to 500.
+#[derive(Clone, Copy)]
+struct Credit {
+    worker: usize,
+    pieces: u16,
 }
 
-// Whether the record at position k is one that a sheet may have.
-fn is_record(sheet: &[u8], k: usize) -> bool
-    requires { k + 5 ≤ length sheet.now }
-    ensures { result ≡ is_record (byte sheet.now k) (body_at sheet.now k) }
+// What a record adds: nothing, if it is a date.
+fn read_record(bytes: &[u8; RECORD]) -> Result<Option<Credit>, Refusal>
+    ensures { result ≡ record_of bytes.now }
 {
-    let kind = sheet[k];
-    if kind == 2 {
-        return true;
-    }
-    if kind != 1 {
-        return false;
-    }
-    let worker = word_at(sheet, k + 1) as usize;
-    if worker < 1 {
-        return false;
-    }
-    worker <= WORKERS
-}
-
-// Whether the few bytes from position k on are a sheet's end.
-fn is_end(sheet: &[u8], k: usize) -> bool
-    requires { (k ≤ length sheet.now) × (length sheet.now - k < 5) }
-    ensures { cond result (some []) none ≡ credits_of (drop k sheet.now) }
-{
-    if sheet.len() - k != 1 {
-        return false;
-    }
-    sheet[k] == 0
-}
-
-// Whether a sheet that is good up to position k is good to its end.
-fn is_rest(sheet: &[u8], k: usize) -> bool
-    requires { k ≤ length sheet.now }
-    ensures { result ≡ is_some (credits_of (drop k sheet.now)) }
-{
-    let mut at = k;
-    while 5 <= sheet.len() - at {
-        if !is_record(sheet, at) {
-            return false;
+    let [kind, a, b, c, d] = *bytes;
+    match kind {
+        CREDIT => {
+            let worker = usize::from(u16::from_le_bytes([a, b]));
+            if !(1..=WORKERS).contains(&worker) {
+                return Err(Refusal::BadSheet);
+            }
+            let pieces = u16::from_le_bytes([c, d]);
+            Ok(Some(Credit { worker, pieces }))
         }
-        at += 5;
+        DATE => Ok(None),
+        _ => Err(Refusal::BadSheet),
     }
-    is_end(sheet, at)
 }
 
-// The refusal where a total is too large: a bad sheet comes before that, be it bad from position k on.
-fn refusal_from(sheet: &[u8], k: usize) -> u32
-    requires { k ≤ length sheet.now }
-    ensures { result ≡ number_of (too_many (credits_of (drop k sheet.now))) }
+// Refuses what is no end of a sheet: that is its last byte.
+fn check_end(bytes: &[u8]) -> Result<(), Refusal>
+    ensures { result ≡ end_of bytes.now }
 {
-    if is_rest(sheet, k) {
-        return refusals::TOTAL;
+    match bytes {
+        [END] => Ok(()),
+        _ => Err(Refusal::BadSheet),
     }
-    refusals::BAD_SHEET
+}
+
+// Refuses what is no sheet, or no rest of one.
+#[tactic(auto, using(crate::proofs::Laws::checking))]
+fn check_sheet(sheet: &[u8]) -> Result<(), Refusal>
+    ensures { result ≡ sheet_check (credits_of sheet.now) }
+{
+    let mut rest = sheet;
+    while let Some((record, after)) = rest.split_first_chunk::<RECORD>() {
+        read_record(record)?;
+        rest = after;
+    }
+    check_end(rest)
+}
+
+// The answer where a total is too large: a bad sheet comes before that.
+fn too_large(sheet: &[u8]) -> Result<(), Refusal>
+    ensures { result ≡ too_many (credits_of sheet.now) }
+{
+    check_sheet(sheet)?;
+    Err(Refusal::Total)
 }
 
 // Whether no total is too large.
 fn are_within(totals: &[u32]) -> bool
     ensures { result ≡ within totals.now }
 {
-    let mut i: usize = 0;
-    while i < totals.len() {
-        if MOST < totals[i] {
-            return false;
-        }
-        i += 1;
-    }
-    true
+    totals.iter().all(|t| *t <= MOST)
 }
 
-fn copy(to: &mut [u32], from: &[u32])
-    requires { length to.old ≡ length from.now }
-    ensures { to.new ≡ from.now }
+// Adds to a worker's sum, where it does not become too large.
+#[tactic(auto, using(crate::proofs::Laws::crediting), unfolding(crate::specs::Totals::add_credit))]
+fn add_credit(sums: &mut [u32], credit: Credit) -> Result<(), Refusal>
+    requires { Running sums.old × (is_worker credit.worker ≡ true) }
+    ensures { told result sums.new ≡ tallied (some (said credit ∷ [])) sums.old }
 {
-    let mut i: usize = 0;
-    while i < from.len() {
-        to[i] = from[i];
-        i += 1;
-    }
-}
-
-// Adds pieces to a worker's sum; false if that would be too large.
-fn credit(sums: &mut [u32], worker: u16, pieces: u16) -> bool
-    requires { Running sums.old × (1 ≤ worker) × (worker ≤ workers) }
-    ensures { Credits (record { worker = worker; pieces = pieces }) sums.old sums.new result }
-{
-    let i = worker as usize - 1;
-    let sum = sums[i] + pieces as u32;
-    if MOST < sum {
-        return false;
+    let i = credit.worker - 1;
+    let sum = sums[i] + u32::from(credit.pieces);
+    if sum > MOST {
+        return Err(Refusal::Total);
     }
     sums[i] = sum;
-    true
+    Ok(())
 }
 
-// Adds the record at position k to the sums; false if one would be too large.
-fn add_record(sums: &mut [u32], sheet: &[u8], k: usize) -> bool
-    requires { Running sums.old × (k + 5 ≤ length sheet.now) × (is_record (byte sheet.now k) (body_at sheet.now k) ≡ true) }
-    ensures { Adds sheet.now k sums.old sums.new result }
-{
-    let is_date = sheet[k] == 2;
-    if is_date {
-        return true;
-    }
-    credit(sums, word_at(sheet, k + 1), word_at(sheet, k + 3))
-}
-
-// Adds a sheet to the sums, and says whether it was added, is none, or brings a sum above the limit.
-fn tally(sums: &mut [u32], sheet: &[u8]) -> u32
+// Adds a sheet to the sums, as far as it can be read.
+#[tactic(auto, using(crate::proofs::Laws::tallying))]
+fn tally(sums: &mut [u32], sheet: &[u8]) -> Result<(), Refusal>
     requires { Running sums.old }
-    ensures { Tallies sheet.now sums.old sums.new result }
+    ensures { told result sums.new ≡ tallied (credits_of sheet.now) sums.old }
 {
-    let mut k: usize = 0;
-    while 5 <= sheet.len() - k {
-        if !is_record(sheet, k) {
-            return refusals::BAD_SHEET;
+    let mut left = sheet;
+    while let Some((record, after)) = left.split_first_chunk::<RECORD>() {
+        if let Some(credit) = read_record(record)? {
+            if add_credit(sums, credit).is_err() {
+                return too_large(after);
+            }
         }
-        if !add_record(sums, sheet, k) {
-            return refusal_from(sheet, k + 5);
-        }
-        k += 5;
+        left = after;
     }
-    if !is_end(sheet, k) {
-        return refusals::BAD_SHEET;
-    }
-    refusals::DONE
+    check_end(left)
 }
 
 // Adds a sheet to the running totals: one pass over the sheet judges it, by sums of its own; the totals are written after it.
-pub fn add_sheet(totals: &mut [u32], sheet: &[u8]) -> u32
-    ensures { record { number = result; totals = totals.new } ≡ after_sheet totals.old sheet.now }
+#[tactic(auto, using(crate::proofs::Laws::adding))]
+pub fn add_sheet(totals: &mut [u32], sheet: &[u8]) -> Result<(), Refusal>
+    ensures { record { number = number_of_answer result; totals = totals.new } ≡ after_sheet totals.old sheet.now }
 {
     if totals.len() != WORKERS {
-        return refusals::BAD_SHEET;
+        return Err(Refusal::BadSheet);
     }
     if !are_within(totals) {
-        return refusal_from(sheet, 0);
+        return too_large(sheet);
     }
-    let mut sums = [0u32; 500];
-    copy(&mut sums, totals);
-    let number = tally(&mut sums, sheet);
-    if number != refusals::DONE {
-        return number;
-    }
-    copy(totals, &sums);
-    refusals::DONE
+    let mut sums = [0u32; WORKERS];
+    sums.copy_from_slice(totals);
+    tally(&mut sums, sheet)?;
+    totals.copy_from_slice(&sums);
+    Ok(())
 }

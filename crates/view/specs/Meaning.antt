@@ -1,16 +1,17 @@
--- What the code's answer is for a view, and what it is to be a part of a lent image.
+-- What the code's answer for a view says, and what it is to be a part of a lent image.
 -- Assumes nothing.
-use Rattle.std.specs.Prelude.{◌≡◌, ℕ, ◌+◌, List}
+use Rattle.std.specs.Prelude.{◌≡◌, ℕ, ◌+◌, List, Ok, Err}
+use Rattle.std.specs.declared.result.Result.{Result}
 use Rattle.std.specs.Borrow.{Bor}
-use Rattle.format.specs.Refusals.{Try, Refusal, number_of, refused, ok}
+use Rattle.format.specs.Refusals.{Try, Refusal, refused, ok}
 use Rattle.format.specs.Geometry.{Part, bytes_of}
-use Rattle.view.specs.declared.ViewStart.{ViewStart}
-use Rattle.view.specs.declared.ViewStart.TheVariants.{At, Refused}
+use Rattle.refusals.specs.declared.Refusal as code
+use Rattle.refusals.specs.Meaning.{reason}
 
--- the code's answer for a view
-abbrev pub view_start : Try Refusal Part → ViewStart
-view_start (refused e) = Refused (number_of e)
-view_start (ok p) = At p.at
+-- the part of the image that is shown, where the code answers with its start
+abbrev pub shown : Result ℕ code.Refusal → Try Refusal Part
+shown (Ok at) = ok (record { at = at; size = 254 })
+shown (Err e) = refused (reason e)
 
 -- "where they lie in the image, not a copy": r has the bytes of the part, and starts in the image's own block of memory, so many bytes in
 pub record PartOf (image r : Bor (List ℕ)) (p : Part) : Type 0 where

@@ -5,32 +5,23 @@ ghost use Rattle.std.specs.Prelude.{◌≡◌};
 ghost use Rattle.geometry.specs.Meaning.{kind_of};
 ghost use Rattle.format.specs.Calls as calls;
 ghost use Rattle.format.specs.Calls.{view_part, view_number};
-ghost use Rattle.view.specs.Meaning.{view_start, PartOf};
+ghost use Rattle.view.specs.Meaning.{shown, PartOf};
 
-use geometry::{Sized, Stated};
+use geometry::Stated;
+use refusals::Refusal;
 
-// Where a view starts in its image, or the number of its refusal.
-#[derive(Clone, Copy)]
-enum ViewStart {
-    At(u32),
-    Refused(u32),
-}
-
-fn start_of_view(image: &[u8], stated: Stated, track: u32, sector: u32) -> ViewStart
-    ensures { result ≡ view_start (calls.view (kind_of stated) image.now track sector) }
+// Where a view starts in its image.
+fn start_of_view(image: &[u8], stated: Stated, track: u32, sector: u32) -> Result<u32, Refusal>
+    ensures { shown result ≡ calls.view (kind_of stated) image.now track sector }
 {
-    match geometry::geometry_of(stated, image.len()) {
-        Sized::Wrong => ViewStart::Refused(refusals::SIZE),
-        Sized::Of(g) => {
-            let t = track as usize;
-            let s = sector as usize;
-            if geometry::on_disc(g, t, s) {
-                let at = disc::sector_at(g, t, s).start;
-                return ViewStart::At((at + 2) as u32);
-            }
-            ViewStart::Refused(refusals::NO_SECTOR)
-        }
+    let g = geometry::geometry_of(stated, image.len())?;
+    let t = track as usize;
+    let s = sector as usize;
+    if !geometry::on_disc(g, t, s) {
+        return Err(Refusal::NoSector);
     }
+    let at = disc::sector_at(g, t, s).start;
+    Ok((at + 2) as u32)
 }
 
 // A part of the image itself; an empty one with a refusal.
@@ -38,12 +29,11 @@ pub fn view<'a>(image: &'a [u8], stated: Stated, track: u32, sector: u32) -> &'a
     ensures { PartOf image.entry result (view_part (kind_of stated) image.now track sector) }
 {
     match start_of_view(image, stated, track, sector) {
-        ViewStart::At(at) => {
+        Ok(at) => {
             let start = at as usize;
-            let end = start + 254;
-            &image[start..end]
+            &image[start..start + 254]
         }
-        ViewStart::Refused(_) => &image[0..0],
+        Err(_) => &image[0..0],
     }
 }
 
@@ -52,8 +42,8 @@ pub fn view_number(image: &[u8], stated: Stated, track: u32, sector: u32) -> u32
     ensures { result ≡ view_number (kind_of stated) image.now track sector }
 {
     match start_of_view(image, stated, track, sector) {
-        ViewStart::At(_) => refusals::DONE,
-        ViewStart::Refused(number) => number,
+        Ok(_) => refusals::DONE,
+        Err(refusal) => u32::from(refusal),
     }
 }
 
@@ -61,8 +51,5 @@ pub fn view_number(image: &[u8], stated: Stated, track: u32, sector: u32) -> u32
 pub fn view_start(image: &[u8], stated: Stated, track: u32, sector: u32) -> u32
     ensures { result ≡ (view_part (kind_of stated) image.now track sector).at }
 {
-    match start_of_view(image, stated, track, sector) {
-        ViewStart::At(start) => start,
-        ViewStart::Refused(_) => 0,
-    }
+    start_of_view(image, stated, track, sector).unwrap_or(0)
 }

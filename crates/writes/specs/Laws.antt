@@ -1,9 +1,8 @@
 -- Laws of the list of what was written: a sector's bytes where they lie in the image, the walk along a file's chain, and the list record by record.
 -- Assumes nothing.
-use Rattle.std.specs.Prelude.{◌≡◌, ◌⊎◌, ℕ, ◌+◌, ◌*◌, ◌-◌, ◌≤◌, ◌<◌, length, take, drop}
+use Rattle.std.specs.Prelude.{◌≡◌, ℕ, ◌+◌, ◌*◌, ◌-◌, ◌≤◌, ◌<◌, length, take, drop, Ok, Err}
 use Rattle.std.proofs.Math.Path.{refl, ap}
-use Rattle.std.proofs.Common.{sym, ap₂, ◌∙◌, ⊎_elim, inl, inr, arith}
-use denote.Enum.Declared.{tag_of}
+use Rattle.std.proofs.Common.{sym, ap₂, ◌∙◌, arith}
 use mathlib.Core.List.{List, [], ◌∷◌, ◌++◌, map, append-nil, append_assoc}
 use Rattle.std.proofs.lemmas.List.Edits.{sets}
 use Rattle.lists.specs.Lists.{times}
@@ -11,7 +10,7 @@ use Rattle.format.specs.Geometry as format
 use Rattle.format.specs.Geometry.{Next, go, Disc, sector, track_of, sector_of, Write, written}
 use Rattle.format.specs.GeometryLaws.{OnDisc}
 use Rattle.format.proofs.GeometryLaws.{sector_cut, sector_full}
-use Rattle.lists.specs.ListLaws.{All, done}
+use Rattle.lists.specs.ListLaws.{All}
 use Rattle.format.specs.Layout.{link_of, met}
 use Rattle.format.proofs.ChainLaws.{met_none, met_go, met_stop, met_off, met_below}
 use Rattle.format.specs.Refusals.{ok}
@@ -19,19 +18,17 @@ use Rattle.format.specs.Writes.{record_of, write_list, list_size}
 use Rattle.format.specs.WriteLaws.{WholeOn}
 use Rattle.format.proofs.WriteLaws.{list_long}
 use Rattle.soundness.specs.CopiedOut.{standing, records_at, copied, copied_join, records_long, copied_out}
-use Rattle.disc.specs.contracts.Step.{the_type}
 use Rattle.geometry.specs.Meaning.{form, geo, sectors_of, Image}
 use Rattle.disc.specs.Meaning.{meaning, Inside, Lies, led}
 use Rattle.geometry.specs.Laws.{each_once, image_full}
 use Rattle.geometry.specs.declared.Geometry.{Geometry}
+use Rattle.geometry.specs.declared.SectorNo.{SectorNo}
 use Rattle.disc.specs.declared.Sector.{Sector}
-use Rattle.disc.specs.declared.Link as link
 use Rattle.disc.specs.declared.Link.{Link}
-use Rattle.disc.specs.declared.Step.{Step}
-use Rattle.disc.specs.declared.Step.TheVariants.{End, To, Off}
+use Rattle.disc.specs.declared.Link.TheVariants.{End, To, Off}
 use Rattle.records.specs.Storing.{Stored, Storing, storing_all, storing_step, storing_end}
 use Rattle.lists.specs.Stores.{sets_front}
-use Rattle.answers.specs.declared.Filled.{Filled}
+use Rattle.refusals.specs.declared.Refusal.TheVariants.{Short}
 use Rattle.answers.specs.Meaning.{Lists}
 use Rattle.answers.specs.Listed.{short_lists, done_lists}
 use Rattle.writes.specs.Meaning.{Copied}
@@ -59,26 +56,17 @@ record_of_write G d n e f h = λ i. 3 ∷ e i ∷ f i ∷ h i
 
 -- ---- the records of a chain
 
--- the number of a step's case, as a match on it tells
-abbrev pub case_of : Step → ℕ
-case_of s = tag_of the_type s
-
 module _ (G : format.Geometry) (d : Disc) where
   -- the records of the sectors that a walk of at most k steps meets
   abbrev pub walked : ℕ → Next → List ℕ
   walked k p = records_at G d (met G d k p)
 
-  pub walked_ended : (k : ℕ) (s : Step) → (case_of s ≡ 0) ⊎ (case_of s ≡ 2) → walked k (led s) ≡ []
+  -- a walk from a link that leads to no sector
+  pub walked_stops : (k : ℕ) (s : Link Sector) → ((to : Sector) → s ≡ To to → ⊥) → walked k (led s) ≡ []
   unfolding records_at
-  walked_ended k End h = ap (records_at G d) (met_stop G d k)
-  walked_ended k (To n) h = absurd (⊎_elim (λ (e : case_of (To n) ≡ 0). omega arith) (λ (e : case_of (To n) ≡ 2). omega arith) h)
-  walked_ended k Off h = ap (records_at G d) (met_off G d k)
-
-  -- the same of a step that is to no sector
-  pub walked_stops : (k : ℕ) (s : Step) → ((to : Sector) → s ≡ To to → ⊥) → walked k (led s) ≡ []
-  walked_stops k End h = walked_ended k End (inl refl)
+  walked_stops k End h = ap (records_at G d) (met_stop G d k)
   walked_stops k (To n) h = absurd (h n refl)
-  walked_stops k Off h = walked_ended k Off (inr refl)
+  walked_stops k Off h = ap (records_at G d) (met_off G d k)
 
   pub walked_none : (p : Next) (k : ℕ) → k ≡ 0 → walked k p ≡ []
   unfolding records_at
@@ -90,14 +78,14 @@ module _ (G : format.Geometry) (d : Disc) where
       ap (walked k) e ∙ ap (records_at G d) (met_go G d k n h) ∙ ap (λ (r : Next). record_of G (standing d n) ++ walked (k - 1) r) (sym f)
 
 -- a link to a sector of the disc, or to none
-inside_on : {g : Geometry} {image : List ℕ} → Image g image → (l : Link) → Inside g l → OnDisc (geo g) (meaning l)
+inside_on : {g : Geometry} {image : List ℕ} → Image g image → (l : Link SectorNo) → Inside g l → OnDisc (geo g) (meaning l)
 unfolding OnDisc
-inside_on i link.TheVariants.End h n e = let z : ◌≡◌ {A = ℕ} 0 1 = cc in absurd (omega arith)
-inside_on i (link.TheVariants.To m) h n e = let is : m.0 ≡ n = cc in omega (arith, i.valid.total)
-inside_on i link.TheVariants.Off h n e = let z : ◌≡◌ {A = ℕ} 0 1 = cc in absurd (omega arith)
+inside_on i End h n e = let z : ◌≡◌ {A = ℕ} 0 1 = cc in absurd (omega arith)
+inside_on i (To m) h n e = let is : m.0 ≡ n = cc in omega (arith, i.valid.total)
+inside_on i Off h n e = let z : ◌≡◌ {A = ℕ} 0 1 = cc in absurd (omega arith)
 
 -- the walk from a link as far as it leads meets sectors of the disc
-pub walked_long : {g : Geometry} {image : List ℕ} → Image g image → (count : ℕ) (first : Link) → Inside g first
+pub walked_long : {g : Geometry} {image : List ℕ} → Image g image → (count : ℕ) (first : Link SectorNo) → Inside g first
     → length (walked (geo g) (sectors_of g image) count (meaning first)) ≡ 259 * length (met (geo g) (sectors_of g image) count (meaning first))
 walked_long {g} {image} i count first h =
     records_long (geo g) (sectors_of g image) (image_full i) (met_below (geo g) (sectors_of g image) count (meaning first) (inside_on i first h))
@@ -132,16 +120,16 @@ front_then {lent} G d xs ys s =
 -- ---- what a command leaves that wrote whole sectors of the disc, each once, and copied them out
 
 module _ {g : Geometry} {before : List ℕ} (lent : List ℕ) (i : Image g before) (ws : List Write) (whole : All (WholeOn (geo g)) ws) where
-  pub listed_short : {r : Filled} → r ≡ record { number = 10; length = 0 } → length lent < list_size (length ws) → Lists g before before lent lent r (ok ws)
-  listed_short a short = short_lists g before lent ws a (omega (arith, list_long (geo g) whole))
+  pub listed_short : length lent < list_size (length ws) → Lists g before before lent lent (Err Short) (ok ws)
+  listed_short short = short_lists g before lent ws (omega (arith, list_long (geo g) whole))
 
-  pub listed_done : ((n : ℕ) → times n (map (λ w. w.at) ws) ≤ 1) → {after buffer ns : List ℕ} {r : Filled} → list_size (length ws) ≤ length lent
+  pub listed_done : ((n : ℕ) → times n (map (λ w. w.at) ws) ≤ 1) → {after buffer ns : List ℕ} {r : ℕ} → list_size (length ws) ≤ length lent
       → sectors_of g after ≡ written ws (sectors_of g before) → ns ≡ map (λ w. w.at) ws → Copied g after ns lent buffer r
-      → Lists g before after lent buffer r (ok ws)
+      → Lists g before after lent buffer (Ok r) (ok ws)
   listed_done once {after} {buffer} {ns} {r} room s e c =
       let list : List ℕ = write_list (geo g) ws in
       let is : copied (geo g) (sectors_of g after) ns ≡ list =
       ap₂ (copied (geo g)) s e ∙ copied_out (geo g) (sectors_of g before) (image_full i) ws whole once in
       let fits : length list ≤ length lent = omega (arith, list_long (geo g) whole) in
-      let size : r.length ≡ length list = c.stored.position ∙ omega (arith, ap length is) in
-      done_lists g before lent ws fits s c.done size (c.stored.buffer ∙ ap (sets lent 0) is ∙ sets_front lent list fits)
+      let size : r ≡ length list = c.position ∙ omega (arith, ap length is) in
+      done_lists g before lent ws fits s size (c.buffer ∙ ap (sets lent 0) is ∙ sets_front lent list fits)

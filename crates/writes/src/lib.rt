@@ -11,8 +11,7 @@ ghost use Rattle.disc.specs.Meaning.{meaning, Inside, Lies};
 ghost use Rattle.records.specs.Storing.{Stored};
 ghost use Rattle.writes.specs.Meaning.{front_of, Walks, Copied};
 
-use answers::Filled;
-use disc::{Link, Sector, Step};
+use disc::{Link, Sector};
 use geometry::{Geometry, SectorNo};
 
 // The length of the list of so many writes.
@@ -50,7 +49,7 @@ fn put_numbered(image: &[u8], g: Geometry, n: SectorNo, buffer: &mut [u8], at: u
 fn put_chain(
     image: &[u8],
     g: Geometry,
-    first: Link,
+    first: Link<SectorNo>,
     count: usize,
     buffer: &mut [u8],
     at: usize,
@@ -60,33 +59,28 @@ fn put_chain(
         Stored buffer.old at (records_at (geo g) d (met (geo g) d count (meaning first))) buffer.new result }
 {
     let mut step = disc::step_to(g, first);
-    let mut left = count;
     let mut position = at;
-    while 0 < left {
-        let Step::To(s) = step else {
+    for i in 0..count {
+        let Link::To(s) = step else {
             return position;
         };
         position = put_write(image, g, s, buffer, position);
         step = disc::step_from(image, g, s);
-        left -= 1;
     }
     position
 }
 
-// Ends a list with kind 0.
-fn end_list(buffer: &mut [u8], at: usize) -> Filled
+// Ends a list with kind 0, and gives its length.
+fn end_list(buffer: &mut [u8], at: usize) -> u32
     requires { (at < length buffer.old) × (at < 1000000) }
-    ensures { (result.number ≡ 0) × Stored buffer.old at (0 ∷ []) buffer.new result.length }
+    ensures { Stored buffer.old at (0 ∷ []) buffer.new result }
 {
     buffer[at] = 0;
-    Filled {
-        number: refusals::DONE,
-        length: (at + 1) as u32,
-    }
+    (at + 1) as u32
 }
 
-// The list of one sector.
-pub fn put_one(image: &[u8], g: Geometry, n: SectorNo, buffer: &mut [u8]) -> Filled
+// The list of one sector; this and those below give its length.
+pub fn put_one(image: &[u8], g: Geometry, n: SectorNo, buffer: &mut [u8]) -> u32
     requires { Image g image.now × (n.0 < g.sectors) × (list_size 1 ≤ length buffer.old) }
     ensures { Copied g image.now (n.0 ∷ []) buffer.old buffer.new result }
 {
@@ -101,7 +95,7 @@ pub fn put_deleted(
     home: SectorNo,
     last: SectorNo,
     buffer: &mut [u8],
-) -> Filled
+) -> u32
     requires { Image g image.now × (home.0 < g.sectors) × (last.0 < g.sectors) × (list_size 3 ≤ length buffer.old) }
     ensures { Copied g image.now (home.0 ∷ last.0 ∷ 0 ∷ []) buffer.old buffer.new result }
 {
@@ -112,7 +106,13 @@ pub fn put_deleted(
 }
 
 // Stores the records with which the list of a save begins: the system sector, and the file's sectors in chain order.
-fn put_front(image: &[u8], g: Geometry, first: Link, count: usize, buffer: &mut [u8]) -> usize
+fn put_front(
+    image: &[u8],
+    g: Geometry,
+    first: Link<SectorNo>,
+    count: usize,
+    buffer: &mut [u8],
+) -> usize
     requires { Image g image.now × Walks g image.now first count × (259 * (count + 1) ≤ length buffer.old) }
     ensures { Stored buffer.old 0
         (records_at (geo g) (sectors_of g image.now) (front_of g image.now first count)) buffer.new result × (result ≡ 259 * (count + 1)) }
@@ -125,11 +125,11 @@ fn put_front(image: &[u8], g: Geometry, first: Link, count: usize, buffer: &mut 
 pub fn put_saved(
     image: &[u8],
     g: Geometry,
-    first: Link,
+    first: Link<SectorNo>,
     count: usize,
     home: SectorNo,
     buffer: &mut [u8],
-) -> Filled
+) -> u32
     requires { Image g image.now × Walks g image.now first count × (home.0 < g.sectors) × (list_size (count + 2) ≤ length buffer.old) }
     ensures { Copied g image.now (front_of g image.now first count ++ home.0 ∷ []) buffer.old buffer.new result }
 {
@@ -142,12 +142,12 @@ pub fn put_saved(
 pub fn put_grown(
     image: &[u8],
     g: Geometry,
-    first: Link,
+    first: Link<SectorNo>,
     count: usize,
     new: SectorNo,
     last: SectorNo,
     buffer: &mut [u8],
-) -> Filled
+) -> u32
     requires { Image g image.now × Walks g image.now first count × (new.0 < g.sectors) × (last.0 < g.sectors)
         × (list_size (count + 3) ≤ length buffer.old) }
     ensures { Copied g image.now (front_of g image.now first count ++ new.0 ∷ last.0 ∷ [])

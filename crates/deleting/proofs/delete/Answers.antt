@@ -1,29 +1,26 @@
 -- `deleting::delete` meets its contract.
-use Rattle.std.proofs.Common.{rules, sym, ◌∙◌}
+use Rattle.std.proofs.Common.{rules, sym}
+use Rattle.std.proofs.lemmas.Result.{err_from_is_err_and}
 use Rattle.format.specs.Geometry.{Geometry, Disc}
 use Rattle.format.specs.Calls.{delete_on, after_delete}
-use Rattle.geometry.specs.Meaning.{kind_of}
-use Rattle.geometry.specs.Laws.{Opened, opened, geometry_wrong}
+use Rattle.geometry.specs.Laws.{opened, geometry_wrong}
 use Rattle.answers.specs.Listed.{listed_size, listed_leaves}
 use Rattle.deleting.proofs.delete.Goals as goal
-use Rattle.deleting.proofs.delete.Goals.{In-Of}
 
--- the image is a disc of the geometry g
-opens : (c : In-Of) → Opened (kind_of c.args.stated) c.in-Of.g c.args.image.now
-opens c = opened _ _ _ (sym c.geometry_of.ensures ∙ c.in-Of.is)
+pub returns-in_err-g : goal.returns-in_err-g
+unfolding after_delete
+returns-in_err-g c =
+    let a = c.args in
+    let p = err_from_is_err_and c.from_residual.result c.from_residual.ensures.1 in
+    let wrong = geometry_wrong _ _ _ (sym c.in_err-g.ensures) in
+    rw (p.1, p.2) (listed_size _ a.image.now a.list.now (λ (G : Geometry) (d : Disc). delete_on G d a.name.now) _ wrong)
 
 pub delete_on-requires : goal.delete_on-requires
-delete_on-requires c = (opens (goal.at.delete_on-requires c).In-Of).on_image
+delete_on-requires c = (opened _ _ _ (sym c.in_ok-g.ensures)).on_image
 
-pub returns-in-Wrong : goal.returns-in-Wrong
+pub returns : goal.returns
 unfolding after_delete
-returns-in-Wrong c =
+returns c =
     let a = c.args in
-    listed_size _ a.image.now a.list.now (λ (G : Geometry) (d : Disc). delete_on G d a.name.now) c.refused.ensures
-    (geometry_wrong _ _ (sym c.geometry_of.ensures ∙ c.in-Wrong.is))
-
-pub returns-in-Of : goal.returns-in-Of
-unfolding after_delete
-returns-in-Of c =
-    let a = c.args in
-    listed_leaves (opens (goal.at.returns-in-Of c).In-Of) (λ (G : Geometry) (d : Disc). delete_on G d a.name.now) _ a.list.now _ _ (search rules) c.delete_on.ensures
+    let opens = opened _ _ _ (sym c.in_ok-g.ensures) in
+    listed_leaves opens (λ (G : Geometry) (d : Disc). delete_on G d a.name.now) _ a.list.now _ _ (search rules) c.delete_on.ensures

@@ -7,13 +7,13 @@ use Rattle.link_laws.specs.Links.{case_else, not_other, found_sector, found_insi
 use Rattle.deleting.specs.Writes.{three_writes}
 use Rattle.deleting.proofs.remove.Goals as goal
 
-pub returns-in_default : goal.returns-in_default
-returns-in_default c =
-    absurd (not_other c.entry_of-entry.result.last (c.entry_of-entry.ensures.last_is ∙ c.requires.3.ends_at) (case_else _ c.in_default.not-To))
+pub unreachable-requires : goal.unreachable-requires
+unreachable-requires c =
+    (not_other c.entry_of-entry.result.last (c.entry_of-entry.ensures.last_is ∙ c.requires.2.ends_at) (case_else _ c.in_default.not-To))
 
 pub overflow_sub-in_use : goal.overflow_sub-in_use
 unfolding slot_at
-overflow_sub-in_use c = omega (arith, c.in_use_of-in_use.ensures, c.requires.3.in_use)
+overflow_sub-in_use c = omega (arith, c.in_use_of-in_use.ensures, c.requires.2.in_use)
 
 pub put_link-requires : goal.put_link-requires
 put_link-requires c = (
@@ -31,10 +31,10 @@ returns c =
     let g = c.args.g in
     let entry = c.entry_of-entry.ensures in
     let sys = c.system_of-sys.ensures in
-    let last = found_sector c.in-To.is (entry.last_is ∙ c.requires.3.ends_at) in
+    let last = found_sector c.in-To.is (entry.last_is ∙ c.requires.2.ends_at) in
     record {
       sectors_are =
-          three_writes _ _ _ c.requires.3 (sectors_of g c.put_slot.new.image) (sectors_of g c.put_link.new.image) _
+          three_writes _ _ _ c.requires.2 (sectors_of g c.put_slot.new.image) (sectors_of g c.put_link.new.image) _
           (rw (← c.in_use_of-in_use.ensures) c.put_slot.ensures)
           (rw (← last, ← sys.leads) c.put_link.ensures)
           (rw (← entry.first_is, ← entry.length_is, ← sys.free_counted, ← sys.used_counted) c.put_system.ensures);

@@ -1,15 +1,12 @@
--- `fsck::all_marked` meets its contract. `least` is the least of 1 and the marks before `n`.
-use Rattle.std.proofs.Common.{rules, refl}
-use Rattle.fsck.specs.Free.{marks_over, marks_next}
+-- `fsck::all_marked` meets its contract.
+use Rattle.std.proofs.Common.{arith, rules, ◌≡◌, ◌∙◌, ◌-◌, min, take, drop, not, eqb, ap, ℕ}
+use Rattle.std.proofs.iter.runs.Made.{chains}
+use Rattle.std.specs.List.{fold}
+use Rattle.fsck.specs.Free.{least_marked}
 use Rattle.fsck.proofs.all_marked.Goals as goal
 
-pub loop-n-init : goal.loop-n-init
-loop-n-init c = (search rules, refl)
-
-pub loop-n-preserved : goal.loop-n-preserved
-loop-n-preserved c =
-    let marks = c.args.marks.now in
-    (search rules, marks_next marks _ c.loop-n.n c.loop-n.least c.loop-n.invariant.1 c.loop-n-test.true c.smaller-least.ensures)
+least : (c : goal.After-fold-least) → c.fold-least.result ≡ fold min 1 (take (c.args.total - 1) (drop 1 c.args.marks.now))
+least c = search (rules, chains)
 
 pub returns : goal.returns
-returns c = marks_over c.args.marks.now _ c.loop-n.n c.loop-n.least c.loop-n.invariant.1 c.loop-n-test.false
+returns c = ap (λ (k : ℕ). not (eqb k 0)) (least c) ∙ least_marked c.args.marks.now 1 (c.args.total - 1) (omega (arith, c.told-marks))

@@ -7,7 +7,6 @@ use Rattle.fsck_names.proofs.slot_bucket.Goals as goal
 pub returns : goal.returns
 returns c =
     let a = c.args in
-    let pre = c.requires in
-    let from = c.start_of.ensures.at in
-    let same_name = ap₂ (λ (s k : ℕ). bucket_of a.size (take 9 (drop (s + k) a.image.now))) from c.slot_start.ensures in
-    (c.bucket_of.ensures.0 ∙ same_name ∙ ap (bucket_of a.size) (sym (name_at pre.0 _ _ pre.1 pre.2)), c.bucket_of.ensures.1)
+    let start = ap₂ (λ (s k : ℕ). bucket_of a.size (take 9 (drop (s + k) a.image.now))) c.start_of.ensures.at c.slot_start.ensures in
+    let name = name_at c.requires.0 a.slot.sector.0 a.slot.index c.requires.1 a.slot.in_sector in
+    (c.bucket_of.ensures.0 ∙ start ∙ ap (bucket_of a.size) (sym name), c.bucket_of.ensures.1)

@@ -1,31 +1,30 @@
--- `listing::count_sector` meets its contract. The loop's invariant: the count and the entries from slot i on are all entries.
-use Rattle.std.proofs.Common.{rules, arith, ap, List, length}
-use Rattle.format.specs.Geometry.{Disc}
+-- `listing::count_sector` meets its contract.
+use Rattle.std.proofs.Common.{arith, ap, sym, ◌∙◌, List, length}
 use Rattle.format.specs.Layout.{Slot, in_use}
 use Rattle.geometry.specs.Meaning.{sectors_of}
-use Rattle.slots.specs.InOrder.{slots_all}
-use Rattle.listing.specs.Laws.{used_step, used_few, used_end}
+use Rattle.slots.specs.InOrder.{slots_all, use_next_free, use_next_used, use_over}
+use Rattle.listing.specs.Laws.{used_few}
 use Rattle.listing.proofs.count_sector.Goals as goal
+use Rattle.listing.proofs.count_sector.Goals.{then-not-slot_free, else-not-slot_free}
 
-pub loop-i-init : goal.loop-i-init
-loop-i-init c =
-    let a = c.args in
-    let all = slots_all (sectors_of a.g a.image.now) a.n.0 in
-    (search rules, omega (arith, ap (λ (ss : List Slot). length (in_use ss)) all))
+pub loop-index-init : goal.loop-index-init
+loop-index-init c = omega (arith, ap (λ (ss : List Slot). length (in_use ss)) (slots_all (sectors_of c.args.g c.args.image.now) c.args.n.0))
 
 pub overflow_add-count : goal.overflow_add-count
 overflow_add-count c =
-    let a = c.args in
-    let d : Disc = sectors_of a.g a.image.now in
-    omega (arith, c.count_slot-count.ensures, c.loop-i.invariant.1, used_step d a.n.0 c.loop-i.i (omega arith), used_few d a.n.0)
+    let d = sectors_of c.args.g c.args.image.now in
+    let used = ap length (use_next_used d c.args.n.0 _ c.loop-index-test.true (sym c.slot_free.ensures ∙ c.if-not-slot_free.true)) in
+    omega (arith, used, used_few d c.args.n.0)
 
-pub loop-i-preserved : goal.loop-i-preserved
-loop-i-preserved c =
-    let a = c.args in
-    let d : Disc = sectors_of a.g a.image.now in
-    (omega arith, omega (arith, c.count_slot-count.ensures, c.loop-i.invariant.1, used_step d a.n.0 c.loop-i.i (omega arith)))
+pub loop-index-preserved : goal.loop-index-preserved
+loop-index-preserved c =
+    let d = sectors_of c.args.g c.args.image.now in
+    elim c.if-not-slot_free.branch [
+      | then-not-slot_free w ↦
+          omega (arith, w.count-is, ap length (use_next_used d c.args.n.0 _ c.loop-index-test.true (sym c.slot_free.ensures ∙ w.if-not-slot_free.true)))
+      | else-not-slot_free w ↦
+          omega (arith, w.count-is, ap length (use_next_free d c.args.n.0 _ c.loop-index-test.true (sym c.slot_free.ensures ∙ w.if-not-slot_free.false)))
+    ]
 
 pub returns : goal.returns
-returns c =
-    let a = c.args in
-    omega (arith, c.loop-i.invariant.1, used_end (sectors_of a.g a.image.now) a.n.0 c.loop-i.i (omega arith))
+returns c = omega (arith, ap length (use_over (sectors_of c.args.g c.args.image.now) c.args.n.0 c.loop-index.index c.loop-index-test.false))

@@ -1,5 +1,5 @@
 -- `listing::put_listing` meets its contract.
-use Rattle.std.proofs.Common.{arith, length-set}
+use Rattle.std.proofs.Common.{arith}
 use Rattle.format.specs.Effects.{listing}
 use Rattle.geometry.specs.Meaning.{geo, sectors_of}
 use Rattle.listing.specs.Laws.{disc_long}
@@ -25,9 +25,6 @@ put_entries-last-requires c =
 
 pub bounds-buffer-last : goal.bounds-buffer-last
 bounds-buffer-last c = (stored (goal.at.bounds-buffer-last c).After-put_entries-last).room
-
-pub shape_of-buffer : goal.shape_of-buffer
-shape_of-buffer c = simp length-set (stored (goal.at.shape_of-buffer c).After-put_entries-last).long
 
 pub returns : goal.returns
 returns c = (stored (goal.at.returns c).After-put_entries-last).whole

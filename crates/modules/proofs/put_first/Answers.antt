@@ -11,4 +11,5 @@ put_body-requires c =
 pub returns : goal.returns
 returns c =
     let a = c.args in
-    rw (← first_part (module_of a.m a.bytes.now) c.part_len-size.ensures (c.part_len-size.result - 0) (omega arith)) c.put_body.ensures
+    rw (← first_part (module_of a.m a.bytes.now) c.part_len-size.ensures (c.part_len-size.result - 0) (omega arith))
+    (rw (c.word_bytes-starts.ensures, c.word_bytes-ends.ensures, c.word_bytes-transfers.ensures) at c.put_body.ensures)

@@ -10,6 +10,3 @@ returns-then-end-at-ge-LATER_ROOM c =
     let im = c.requires.0 in
     let long = sector_full (image_full im) c.args.s.number.0 (omega (arith, c.requires.1.on, im.valid.total)) in
     copied_whole (omega (arith, long)) (omega (arith, c.if-end-at-ge-LATER_ROOM.true, c.requires.2)) c.copy_part.ensures
-
-pub returns : goal.returns
-returns c = c.copy_part-2.ensures

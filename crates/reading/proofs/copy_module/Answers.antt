@@ -1,4 +1,4 @@
--- `reading::copy_module` meets its contract. The loop's invariant: storing what is left of the bytes gives what storing all of them gives at the start.
+-- `reading::copy_module` meets its contract.
 use Rattle.std.proofs.Common.{◌≡◌, refl, sym, ap, ◌∙◌, ℕ, ◌+◌, ◌-◌, arith, List, ◌++◌, length, take, drop, length-take}
 use lib.Seq.{sets, take-nil}
 use Rattle.lists.specs.Stores.{sets_front}
@@ -11,24 +11,11 @@ use Rattle.reading.specs.FileLaws.{file_followed, followed_leads, followed_step,
 use Rattle.reading.specs.CopyLaws.{copied_on, copied_long, file_bytes}
 use Rattle.reading.proofs.copy_module.Goals as goal
 
-pub copy_part-at-requires : goal.copy_part-at-requires
-copy_part-at-requires c =
-    let pre = c.requires in
-    (pre.0.on_image, pre.3, omega arith, omega arith, pre.2)
-
 pub loop-j-init : goal.loop-j-init
-loop-j-init c =
-    let pre = c.requires in
-    (pre.0.some_sector, file_followed pre.0, c.copy_part-at.ensures.inside, refl, refl, pre.3)
+loop-j-init c = (file_followed c.requires.0, c.copy_part-at.ensures.inside, refl, refl, c.requires.3)
 
 pub next_of-s-requires : goal.next_of-s-requires
-next_of-s-requires c = (c.requires.0.on_image, c.loop-j.invariant.5, followed_leads _ _ _ c.loop-j.invariant.1 c.loop-j-test.true)
-
-pub copy_later-at-requires : goal.copy_later-at-requires
-copy_later-at-requires c =
-    let pre = c.requires in
-    let long = copied_long c.copy_part-at.ensures in
-    (pre.0.on_image, c.next_of-s.ensures.1, c.loop-j.invariant.2, omega (arith, long, c.loop-j.invariant.3, pre.2))
+next_of-s-requires c = (c.requires.0.on_image, c.loop-j.invariant.4, followed_leads _ _ _ c.loop-j.invariant.0 c.loop-j-test.true)
 
 pub loop-j-preserved : goal.loop-j-preserved
 loop-j-preserved c =
@@ -40,13 +27,12 @@ loop-j-preserved c =
     let on = c.loop-j-test.true in
     let link = c.next_of-s.ensures.0 in
     let copied = c.copy_later-at.ensures in (
-      omega arith,
-      followed_step n a.count j inv.1 on m link c.next_of-s.ensures.1.on,
+      followed_step n a.count j inv.0 on m link c.next_of-s.ensures.1.on,
       copied.inside,
-      copied_long copied ∙ inv.3,
-      copied_on copied inv.2 (later_bytes (bodies_after a.g a.image.now m (a.count - (j + 1))))
-          ∙ ap (λ (xs : List ℕ). sets c.loop-j.buffer c.loop-j.at (take (a.size - c.loop-j.at) xs)) (sym (bytes_step n a.count j inv.1 on m link))
-          ∙ inv.4,
+      copied_long copied ∙ inv.2,
+      copied_on copied inv.1 (later_bytes (bodies_after a.g a.image.now m (a.count - (j + 1))))
+          ∙ ap (λ (xs : List ℕ). sets c.loop-j.buffer c.loop-j.at (take (a.size - c.loop-j.at) xs)) (sym (bytes_step n a.count j inv.0 on m link))
+          ∙ inv.3,
       c.next_of-s.ensures.1,
     )
 
@@ -62,7 +48,7 @@ returns c =
     let whole : a.size - 0 ≡ a.size = omega arith in
     let bytes = file_bytes c.requires.0 a.size c.requires.1 in
     sym (ap (sets c.loop-j.buffer c.loop-j.at) end)
-    ∙ c.loop-j.invariant.4
+    ∙ c.loop-j.invariant.3
     ∙ copied_on c.copy_part-at.ensures (omega arith) rest
     ∙ ap (λ (k : ℕ). sets a.buffer.now 0 (take k all)) whole
     ∙ ap (sets a.buffer.now 0) bytes

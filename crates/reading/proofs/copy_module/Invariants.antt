@@ -8,13 +8,9 @@ use Rattle.reading.proofs.copy_module.Given as goal
 
 abbrev pub invariant-loop-j : goal.invariant-loop-j
 invariant-loop-j l =
-    (l.j ≤ l.count)
-    × Followed l.g l.image l.s.number.0 (l.count - l.j)
+    Followed l.g l.image l.s.number.0 (l.count - l.j)
     × (l.at ≤ l.size)
     × (length l.buffer ≡ length l.initial.buffer)
     × (sets l.buffer l.at (take (l.size - l.at) (later_bytes (bodies_after l.g l.image l.s.number.0 (l.count - l.j))))
-    ≡ sets l.initial.buffer l.initial.at (take (l.size - l.initial.at) (later_bytes (bodies_after l.g l.image l.initial.s.number.0 (l.count - l.initial.j)))))
+    ≡ sets l.initial.buffer l.initial.at (take (l.size - l.initial.at) (later_bytes (bodies_after l.g l.image l.fn.first.number.0 (l.count - 1)))))
     × Lies l.g l.s
-
-abbrev pub decreases-loop-j : goal.decreases-loop-j
-decreases-loop-j l = l.count - l.j

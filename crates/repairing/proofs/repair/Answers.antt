@@ -1,28 +1,20 @@
 -- `repairing::repair` meets its contract.
-use Rattle.std.proofs.Common.{rules, sym, ◌∙◌}
-use Rattle.format.specs.Geometry.{Geometry, Disc}
+use Rattle.std.proofs.Common.{rules, sym}
+use Rattle.std.proofs.lemmas.Result.{err_from_is_err_and}
 use Rattle.format.specs.Calls.{repair_on, after_repair}
-use Rattle.geometry.specs.Meaning.{kind_of}
-use Rattle.geometry.specs.Laws.{Opened, opened, geometry_wrong}
+use Rattle.geometry.specs.Laws.{opened, geometry_wrong}
 use Rattle.answers.specs.Laws.{changed_size, changed_leaves}
 use Rattle.repairing.proofs.repair.Goals as goal
-use Rattle.repairing.proofs.repair.Goals.{In-Of}
 
-opening : (c : In-Of) → let a = c.args in Opened (kind_of a.stated) c.in-Of.g a.image.now
-opening c = opened _ _ _ (sym c.geometry_of.ensures ∙ c.in-Of.is)
+pub returns-in_err-g : goal.returns-in_err-g
+unfolding after_repair
+returns-in_err-g c =
+    let p = err_from_is_err_and c.from_residual.result c.from_residual.ensures.1 in
+    rw (p.1, p.2) (sym (changed_size _ c.args.image.now repair_on _ (geometry_wrong _ _ _ (sym c.in_err-g.ensures))))
 
 pub repair_on-requires : goal.repair_on-requires
-repair_on-requires c = (opening (goal.at.repair_on-requires c).In-Of).on_image
+repair_on-requires c = (opened _ _ _ (sym c.in_ok-g.ensures)).on_image
 
-pub returns-in-Wrong : goal.returns-in-Wrong
+pub returns : goal.returns
 unfolding after_repair
-returns-in-Wrong c =
-    let a = c.args in
-    let wrong = geometry_wrong _ _ (sym c.geometry_of.ensures ∙ c.in-Wrong.is) in
-    sym (changed_size _ a.image.now (λ (G : Geometry) (d : Disc). repair_on G d) wrong)
-
-pub returns-in-Of : goal.returns-in-Of
-unfolding after_repair
-returns-in-Of c =
-    let a = c.args in
-    changed_leaves (opening (goal.at.returns-in-Of c).In-Of) (λ (G : Geometry) (d : Disc). repair_on G d) _ _ (search rules) c.repair_on.ensures
+returns c = changed_leaves (opened _ c.args.image.now _ (sym c.in_ok-g.ensures)) repair_on _ _ (search rules) c.repair_on.ensures

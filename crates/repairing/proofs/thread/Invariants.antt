@@ -5,9 +5,7 @@ use Rattle.repairing.specs.Meaning.{Threaded}
 use Rattle.repairing.proofs.thread.Given as goal
 
 abbrev pub invariant-loop-track : goal.invariant-loop-track
-invariant-loop-track l =
-    (l.track ≤ l.g.tracks) × (l.chain.count + (geo l.g).per_track * l.track ≤ l.g.sectors)
-    × Threaded l.g l.marks l.initial.image ((geo l.g).per_track * l.track) l.chain.first l.chain.count l.image
-
-abbrev pub decreases-loop-track : goal.decreases-loop-track
-decreases-loop-track l = l.track
+invariant-loop-track l = record {
+  few : l.chain.count + (geo l.g).per_track * l.track ≤ l.g.sectors;
+  threaded : Threaded l.g l.marks l.initial.image ((geo l.g).per_track * l.track) l.chain.first l.chain.count l.image;
+}

@@ -1,25 +1,26 @@
 -- `replaying::is_list` meets its contract.
-use Rattle.std.proofs.Common.{rules, arith, refl, sym, ◌∙◌}
+use Rattle.std.proofs.Common.{arith, sym, ◌∙◌, ne_eqb}
 use Rattle.geometry.specs.Meaning.{geo}
 use Rattle.replaying.specs.Laws.{record_bad, rest_on, end_is}
 use Rattle.replaying.proofs.is_list.Goals as goal
 
-pub loop-at-init : goal.loop-at-init
-loop-at-init c = (search rules, refl)
-
 pub returns-then-not-is_record : goal.returns-then-not-is_record
 returns-then-not-is_record c =
-    let a = c.args in
-    let bad = sym c.is_record.ensures ∙ c.if-not-is_record.true in
-    sym (record_bad (geo a.g) a.list.now c.loop-at.at (omega arith) bad) ∙ c.loop-at.invariant.1
+    let cut = c.in-Some.ensures.cases in
+    sym (record_bad (geo c.args.g) _ (omega arith) (rw cut.0 at (sym c.if-not-is_record.ensures))) ∙ c.loop-first.invariant
 
-pub loop-at-preserved : goal.loop-at-preserved
-loop-at-preserved c =
-    let a = c.args in
-    let good = sym c.is_record.ensures ∙ c.if-not-is_record.false in
-    (omega arith, rest_on (geo a.g) a.list.now c.loop-at.at (omega arith) good ∙ c.loop-at.invariant.1)
+pub loop-first-preserved : goal.loop-first-preserved
+loop-first-preserved c =
+    let cut = c.in-Some.ensures.cases in
+    rw cut.1 (rest_on (geo c.args.g) _ (omega arith) (rw cut.0 at (sym c.if-not-is_record.ensures))) ∙ c.loop-first.invariant
 
-pub returns : goal.returns
-returns c =
-    let a = c.args in
-    c.is_end.ensures ∙ end_is (geo a.g) a.list.now c.loop-at.at (omega arith) ∙ c.loop-at.invariant.1
+pub returns-then-alone : goal.returns-then-alone
+returns-then-alone c =
+    let end = sym (end_is (geo c.args.g) _ c.in_default.ensures.cases) ∙ c.loop-first.invariant in
+    simp c.if-alone.true at end
+
+pub returns-else-alone : goal.returns-else-alone
+returns-else-alone c =
+    let end = sym (end_is (geo c.args.g) _ c.in_default.ensures.cases) ∙ c.loop-first.invariant in
+    let more = ne_eqb _ _ c.if-alone.false in
+    simp more (simp more at end)

@@ -1,30 +1,29 @@
 -- `replaying::replay_records` meets its contract.
-use Rattle.std.proofs.Common.{rules, arith, refl, ◌∙◌}
+use Rattle.std.proofs.Common.{rules, arith, ◌∙◌}
 use Rattle.geometry.specs.Meaning.{geo, sectors_of}
 use Rattle.geometry.specs.Laws.{image_kept}
 use Rattle.replaying.specs.Laws.{on_record, on_rest, on_replayed, end_replayed}
 use Rattle.replaying.proofs.replay_records.Goals as goal
 
-pub loop-k-init : goal.loop-k-init
-loop-k-init c = (omega arith, refl, c.requires.1, refl)
-
 pub replay_record-requires : goal.replay_record-requires
 replay_record-requires c =
-    let a = c.args in
-    (image_kept c.requires.0 c.loop-k.invariant.1, omega arith, on_record (geo a.g) a.list.now c.loop-k.k (omega arith) c.loop-k.invariant.2)
+    let cut = c.in-Some.ensures.cases in
+    (image_kept c.requires.0 c.loop-first.invariant.kept, rw cut.0 (on_record (geo c.args.g) _ (omega arith) c.loop-first.invariant.list_is))
 
-pub loop-k-preserved : goal.loop-k-preserved
-loop-k-preserved c =
+pub loop-first-preserved : goal.loop-first-preserved
+loop-first-preserved c =
     let a = c.args in
     let G = geo a.g in
-    let s = a.list.now in (
-      omega arith,
-      search rules,
-      on_rest G s c.loop-k.k (omega arith) c.loop-k.invariant.2,
-      on_replayed G s c.loop-k.k (omega arith) c.loop-k.invariant.2 (sectors_of a.g c.loop-k.image) _ c.replay_record.ensures ∙ c.loop-k.invariant.3,
-    )
+    let cut = c.in-Some.ensures.cases in
+    record {
+      kept = search rules;
+      list_is = rw cut.1 (on_rest G _ (omega arith) c.loop-first.invariant.list_is);
+      sectors_are =
+          rw cut.1 (on_replayed G _ (omega arith) c.loop-first.invariant.list_is _ _ (rw cut.0 at c.replay_record.ensures))
+          ∙ c.loop-first.invariant.sectors_are;
+    }
 
 pub returns : goal.returns
 returns c =
     let a = c.args in
-    end_replayed (geo a.g) a.list.now c.loop-k.k (omega arith) (sectors_of a.g c.loop-k.image) ∙ c.loop-k.invariant.3
+    end_replayed (geo a.g) _ (omega (arith, c.in_default.ensures.cases)) (sectors_of a.g c.loop-first.image) ∙ c.loop-first.invariant.sectors_are

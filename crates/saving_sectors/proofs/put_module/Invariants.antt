@@ -1,5 +1,5 @@
 -- `saving_sectors::put_module` meets its contract. The loop's invariant: j of the sectors are written, as `Taking` says.
-use Rattle.std.proofs.Common.{◌-◌, ◌≤◌, ◌<◌, ◌≡◌, length}
+use Rattle.std.proofs.Common.{◌<◌}
 use Rattle.format.specs.Layout.{free_pointer}
 use Rattle.format.specs.Modules.{bodies}
 use Rattle.geometry.specs.Meaning.{geo, sectors_of}
@@ -12,8 +12,7 @@ use Rattle.saving_sectors.proofs.put_module.Given as goal
 abbrev pub invariant-loop-j : goal.invariant-loop-j
 invariant-loop-j l =
     let d = sectors_of l.g l.initial.image in
-    (l.j ≤ l.count) × (length l.image ≡ length l.initial.image) × Inside l.g l.at × (l.last.0 < l.g.sectors)
-    × Taking (geo l.g) d (free_pointer (geo l.g) d) (file_taken (geo l.g) d (module_of l.m l.sheet)) (bodies (module_of l.m l.sheet)) l.j (meaning l.at) l.last.0 (sectors_of l.g l.image)
-
-abbrev pub decreases-loop-j : goal.decreases-loop-j
-decreases-loop-j l = l.count - l.j
+    let G = geo l.g in
+    let m = module_of l.m l.sheet in
+    Inside l.g l.at × (l.last.0 < l.g.sectors)
+    × Taking G d (free_pointer G d) (file_taken G d m) (bodies m) l.j (meaning l.at) l.last.0 (sectors_of l.g l.image)

@@ -8,33 +8,16 @@ use Rattle.link_laws.specs.Links.{case_else, not_other, found_sector, found_insi
 use Rattle.saving_sectors.specs.Writes.{growth_none, counts_fit, new_file_leads, new_last, saved_grown}
 use Rattle.saving_sectors.proofs.save_and_grow.Goals as goal
 
-pub put_file-file-requires : goal.put_file-file-requires
-put_file-file-requires c = (c.requires.0, c.sectors_for-count.ensures, c.system_of-sys.ensures.leads)
-
-pub returns-in_default : goal.returns-in_default
-returns-in_default c =
-    absurd (not_other c.put_file-file.result.next (new_file_leads c.requires.0 c.requires.1 c.put_file-file.ensures) (case_else _ c.in_default.not-To))
-
-pub link_of-rest-requires : goal.link_of-rest-requires
-link_of-rest-requires c = (
-  image_kept c.requires.0.image_of c.put_file-file.auto.image,
-  found_inside c.args.g c.in-To.is c.put_file-file.ensures.next_inside,
-)
-
-pub grow-requires : goal.grow-requires
-grow-requires c = (
-  image_kept c.requires.0.image_of c.put_file-file.auto.image,
-  c.last_sector-last.ensures.1,
-  found_inside c.args.g c.in-To.is c.put_file-file.ensures.next_inside,
-)
+pub unreachable-requires : goal.unreachable-requires
+unreachable-requires c =
+    not_other c.put_file-file.result.next (new_file_leads c.requires.0 c.requires.1 c.put_file-file.ensures) (case_else _ c.in_default.not-To)
 
 pub overflow_add-count : goal.overflow_add-count
 overflow_add-count c = omega (arith, c.sectors_for-count.ensures, (counts_fit c.requires.0).1)
 
 pub overflow_sub-free : goal.overflow_sub-free
 overflow_sub-free c =
-    let fits = (counts_fit c.requires.0).0 in
-    omega (arith, c.sectors_for-count.ensures, fits, growth_none _ _ c.requires.1, c.system_of-sys.ensures.free_counted)
+    omega (arith, c.sectors_for-count.ensures, (counts_fit c.requires.0).0, growth_none _ _ c.requires.1, c.system_of-sys.ensures.free_counted)
 
 pub overflow_add-used : goal.overflow_add-used
 overflow_add-used c = omega (arith, c.sectors_for-count.ensures, (counts_fit c.requires.0).1, c.system_of-sys.ensures.used_counted)

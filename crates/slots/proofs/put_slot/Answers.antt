@@ -15,8 +15,8 @@ unfolding with_slot
 returns c =
     let a = c.args in
     let d : Disc = sectors_of a.g a.image.now in
-    let n : ℕ = a.n.0 in
+    let n : ℕ = a.slot.sector.0 in
     let counted : List ℕ = sets (sector d n) in_use_offset (a.in_use ∷ []) in
     c.put-2.ensures
     ∙ ap₂ (λ (x : Disc) (k : ℕ). stored_at x n k a.bytes.now) c.put.ensures c.slot_start.ensures
-    ∙ sector_again d n (slot_start a.i) counted a.bytes.now (omega (arith, (image_full c.requires.0).many, c.requires.0.valid.total))
+    ∙ sector_again d n (slot_start a.slot.index) counted a.bytes.now (omega (arith, (image_full c.requires.0).many, c.requires.0.valid.total))

@@ -17,6 +17,6 @@ pub returns : goal.returns
 returns c =
     let a = c.args in
     let d : Disc = sectors_of a.g a.image.now in
-    let part : ℕ → ℕ → List ℕ = λ L k. take L (drop k (sector d a.n.0)) in
-    let own = ap₂ part (nine (goal.at.returns c).Start) c.slot_start.ensures ∙ sym (name_front d a.n.0 a.i) in
+    let part : ℕ → ℕ → List ℕ = λ L k. take L (drop k (sector d a.slot.sector.0)) in
+    let own = ap₂ part (nine (goal.at.returns c).Start) c.slot_start.ensures ∙ sym (name_front d a.slot.sector.0 a.slot.index) in
     c.same_at.ensures ∙ ap (λ (s : List ℕ). same s a.name.bytes) own

@@ -17,7 +17,8 @@ returns c =
     let d : Disc = sectors_of a.g a.image.now in
     let counts : List ℕ = word a.free ++ word a.used in
     let address = c.address_of-address.ensures in
-    c.put-2.ensures
+    let stored = rw (c.word_bytes-free_bytes.ensures, c.word_bytes-used_bytes.ensures) at c.put-2.ensures in
+    stored
     ∙ ap (λ (x : Disc). stored_at x 0 free_count_offset counts) c.put.ensures
     ∙ sector_again d 0 free_count_offset _ counts (omega (arith, length_cut (form a.g) (geo a.g) a.image.now, c.requires.0.valid.total))
     ∙ ap₂ (λ (s t : ℕ). set d 0 (sets (sets (sector d 0) free_offset (s ∷ t ∷ [])) free_count_offset counts)) address.1 address.0

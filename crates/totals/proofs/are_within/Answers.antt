@@ -1,17 +1,14 @@
 -- `totals::are_within` meets its contract.
-use Rattle.std.proofs.Common.{take_all, true, rules, arith, refl, sym, ap, ◌∙◌}
-use Rattle.totals.proofs.Laws.{over_at, within_one}
-use Rattle.totals.specs.Totals.{within}
+use Rattle.std.proofs.Common.{◌&&◌, leb, refl, ◌∙◌, rules, tests}
+use Rattle.std.specs.List.{list_all}
+use Rattle.std.proofs.lemmas.Iterator.{YieldsList-from_slice}
+use Rattle.std.proofs.lemmas.Iterator.Search.{all_from_yields_List}
+use Rattle.std.proofs.lemmas.List.Recursion.{same_from_clauses}
+use Rattle.totals.specs.Totals.{within, max_total}
 use Rattle.totals.proofs.are_within.Goals as goal
 
-pub loop-i-init : goal.loop-i-init
-loop-i-init c = (search rules, refl)
-
-pub returns-then-totals-i-gt-MOST : goal.returns-then-totals-i-gt-MOST
-returns-then-totals-i-gt-MOST c = sym (over_at c.args.totals.now c.loop-i.i (omega arith) c.if-totals-i-gt-MOST.true)
-
-pub loop-i-preserved : goal.loop-i-preserved
-loop-i-preserved c = (omega arith, within_one c.args.totals.now c.loop-i.i (omega arith) c.loop-i.invariant.1 c.if-totals-i-gt-MOST.false)
-
 pub returns : goal.returns
-returns c = sym c.loop-i.invariant.1 ∙ ap within (take_all c.loop-i.i c.args.totals.now (omega arith))
+returns c =
+    let ts = c.args.totals.now in
+    all_from_yields_List (λ t. leb t max_total) _ _ c.all.result c.all.ensures.ran (YieldsList-from_slice ts cc) (λ x b q k. search (rules, tests))
+    ∙ same_from_clauses (list_all (λ t. leb t max_total)) within (λ t b. leb t max_total && b) refl (λ t ts. refl) (λ t ts. refl) ts

@@ -1,13 +1,13 @@
 -- `view::view_number` meets its contract.
-use Rattle.std.proofs.Common.{sym, ◌∙◌}
+use Rattle.std.proofs.Common.{refl}
+use Rattle.format.specs.Refusals.{number}
 use Rattle.format.specs.Calls.{view_number}
-use Rattle.view.specs.Laws.{start_number, refused_number}
 use Rattle.view.proofs.view_number.Goals as goal
 
-pub returns-in-At : goal.returns-in-At
-unfolding view_number
-returns-in-At c = sym (start_number _ _ (sym c.start_of_view.ensures ∙ c.in-At.is))
+pub returns-in-Ok : goal.returns-in-Ok
+unfolding view_number number
+returns-in-Ok c = rw (← c.in-Ok.ensures) refl
 
-pub returns-in-Refused : goal.returns-in-Refused
-unfolding view_number
-returns-in-Refused c = sym (refused_number _ _ (sym c.start_of_view.ensures ∙ c.in-Refused.is))
+pub returns-in-Err : goal.returns-in-Err
+unfolding view_number number
+returns-in-Err c = rw (← c.in-Err.ensures) c.from.ensures

@@ -1,14 +1,18 @@
 -- `view::view_start` meets its contract.
-use Rattle.std.proofs.Common.{sym, ap, ◌∙◌}
-use Rattle.format.specs.Geometry.{Part}
-use Rattle.format.specs.Calls.{view_part}
-use Rattle.view.specs.Laws.{start_part, refused_part}
+use Rattle.std.proofs.Common.{◌≡◌, refl, ℕ, Ok, Err}
+use Rattle.std.specs.Result.{result_unwrap_or}
+use Rattle.std.specs.declared.result.Result.{Result}
+use Rattle.format.specs.Refusals.{value_or}
+use Rattle.format.specs.Calls.{part_by, view_part}
+use Rattle.refusals.specs.declared.Refusal.{Refusal}
+use Rattle.view.specs.Meaning.{shown}
 use Rattle.view.proofs.view_start.Goals as goal
 
-pub returns-in-At : goal.returns-in-At
-unfolding view_part
-returns-in-At c = sym (start_part _ _ (sym c.start_of_view.ensures ∙ c.in-At.is))
+start_is : (r : Result ℕ Refusal) → result_unwrap_or r 0 ≡ (part_by (shown r)).at
+unfolding part_by value_or
+start_is (Ok at) = refl
+start_is (Err e) = refl
 
-pub returns-in-Refused : goal.returns-in-Refused
+pub returns : goal.returns
 unfolding view_part
-returns-in-Refused c = sym (ap (λ (p : Part). p.at) (refused_part _ _ (sym c.start_of_view.ensures ∙ c.in-Refused.is)))
+returns c = rw (c.unwrap_or.ensures, ← c.start_of_view.ensures) (start_is c.start_of_view.result)

@@ -11,4 +11,4 @@ returns c =
     let one = copied_step _ _ a.home.0 (a.last.0 ∷ 0 ∷ []) (storing_all _ 0 refl) c.put_numbered-one.ensures.0 in
     let two = copied_step _ _ a.last.0 (0 ∷ []) one c.put_numbered-two.ensures.0 in
     let three = copied_step _ _ 0 [] two c.put_numbered-three.ensures.0 in
-    record { done = end.0; stored = copied_end _ _ three end.1 }
+    copied_end _ _ three end

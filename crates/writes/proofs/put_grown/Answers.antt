@@ -11,4 +11,4 @@ returns c =
     let begun = front_then _ _ (front_of a.g a.image.now a.first a.count) (a.new.0 ∷ a.last.0 ∷ []) c.put_front-front.ensures.0 in
     let one = copied_step _ _ a.new.0 (a.last.0 ∷ []) begun c.put_numbered-one.ensures.0 in
     let two = copied_step _ _ a.last.0 [] one c.put_numbered-two.ensures.0 in
-    record { done = end.0; stored = copied_end _ _ two end.1 }
+    copied_end _ _ two end

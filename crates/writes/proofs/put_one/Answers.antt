@@ -9,4 +9,4 @@ returns c =
     let end = c.end_list.ensures in
     let a = c.args in
     let one = copied_step _ _ a.n.0 [] (storing_all _ 0 refl) c.put_numbered-at.ensures.0 in
-    record { done = end.0; stored = copied_end _ _ one end.1 }
+    copied_end _ _ one end

@@ -10,4 +10,4 @@ returns c =
     let a = c.args in
     let begun = front_then _ _ (front_of a.g a.image.now a.first a.count) (a.home.0 ∷ []) c.put_front-front.ensures.0 in
     let one = copied_step _ _ a.home.0 [] begun c.put_numbered-at.ensures.0 in
-    record { done = end.0; stored = copied_end _ _ one end.1 }
+    copied_end _ _ one end

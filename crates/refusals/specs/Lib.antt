@@ -1,0 +1,3 @@
+-- The definitions that contracts cite of the code's refusals.
+-- Assumes nothing.
+pub mod Meaning
