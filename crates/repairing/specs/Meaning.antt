@@ -33,14 +33,16 @@ pub record Extends (g : Geometry) (m : List ℕ) (j : ℕ) (first₀ : Address) 
   pub few : count + k ≤ g.sectors
   pub threads : (before : List ℕ) → Threaded g m before j first₀ count₀ x → Threaded g m before k first count y
 
--- the track and sector byte that a link's two bytes are, which stand for a number
-abbrev pub linking : ℕ → Address
-linking link = record { track = link % 256; sector = link / 256 % 256 }
+-- the address that a link has, whose two bytes are carried as one number, the track in the low byte
+abbrev pub address_in : ℕ → Address
+address_in link = record { track = link % 256; sector = link / 256 % 256 }
 
-pub linking_is : {link : ℕ} (first : Address) → link ≡ first.track + 256 * first.sector → first.track < 256 → first.sector < 256 → linking link ≡ first
-linking_is first e t s =
-    let began : ℕ → ℕ → Address = λ t s. record { track = t; sector = s } in
-    ap₂ began (omega (arith, e, t)) (omega (arith, e, t, s))
+-- and no other: two bytes put together to a number come out of it again
+pub address_in_is : {link : ℕ} (first : Address) → link ≡ first.track + 256 * first.sector → first.track < 256 → first.sector < 256
+    → address_in link ≡ first
+address_in_is first e t s =
+    let joined : ℕ → ℕ → Address = λ t s. record { track = t; sector = s } in
+    ap₂ joined (omega (arith, e, t)) (omega (arith, e, t, s))
 
 -- nothing is linked
 pub thread_start : {g : Geometry} → Valid g → (m image : List ℕ) (k : ℕ) → k ≡ g.sectors → (first : Address) → first.track ≡ 0 → first.sector ≡ 0

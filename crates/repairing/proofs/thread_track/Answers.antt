@@ -3,7 +3,7 @@ use Rattle.std.proofs.Common.{rules, arith, ◌+◌, ◌*◌, ◌-◌, ◌<◌, 
 use Rattle.geometry.specs.Meaning.{geo}
 use Rattle.passing.specs.Stops.{stop_sector}
 use Rattle.passing.specs.Positions.{passed_here}
-use Rattle.repairing.specs.Meaning.{linking_is, extend_skip, extend_more}
+use Rattle.repairing.specs.Meaning.{address_in_is, extend_skip, extend_more}
 use Rattle.repairing.proofs.thread_track.Goals as goal
 use Rattle.repairing.proofs.thread_track.Goals.{In-loop-i}
 
@@ -29,7 +29,7 @@ loop-i-preserved c =
     let v = c.requires.0.valid in
     let stop = c.requires.1.at _ (on_track w) in
     let first = passed_here v c.args.track _ c.requires.2 (on_track w) _ refl (c.sector_of_stop.ensures ∙ stop_sector v _ _ stop) in
-    let link = rw (sym (linking_is _ c.word-link-in-loop-i.ensures (search rules) (search rules))) at first in
+    let link = rw (sym (address_in_is _ c.word-link-in-loop-i.ensures (search rules) (search rules))) at first in
     record {
       kept = search rules;
       extends = extend_more v c.args.track _ c.requires.2 (on_track w) _ stop _ c.stop_on-sector.ensures.0 _ (next w)
