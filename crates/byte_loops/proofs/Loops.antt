@@ -1,4 +1,5 @@
--- Laws of loops over bytes: one turn, the turn that ends the loop early, and the end. The library's methods have the loops now; the laws stand.
+-- Laws of loops over bytes: one turn, the turn that ends the loop early, and the end. `copy`, `same_at` and `are_zero` go by them; a fill and the test of
+-- one value are the library's methods now, and their laws stand.
 -- Assumes nothing.
 use Rattle.std.specs.Prelude.{◌≡◌, refl, ℕ, zero, suc, ◌+◌, ◌-◌, ◌≤◌, ◌<◌, Bool, true, false, ◌&&◌, List, ◌∷◌, length, get_or, set, drop, replicate, eqb}
 use Rattle.std.proofs.Common.{sym, ap, ◌∙◌, arith, add-one, drop_of_length-le, drop-cons, eq-eqb, ne_eqb}

@@ -29,6 +29,7 @@ fill_whole to n v h =
 
 -- ---- tests on lists in the words of the library
 
+-- no proof cites it: `same_at` is a loop
 pub same_pointwise : (xs ys : List ℕ) → pointwise eqb xs ys ≡ same xs ys
 same_pointwise [] [] = refl
 same_pointwise [] (y ∷ ys) = refl
@@ -61,7 +62,7 @@ module _ (xs : List ℕ) (i e : ℕ) (inside : e ≤ length xs) where
     pub all_over : e ≤ i → all (eqb v) (slice i e xs) ≡ true
     all_over h = ap (all (eqb v)) (slice_over h)
 
--- ---- bits gathered from bytes: none are set exactly where all of these are zero
+-- ---- bits gathered from bytes by a fold: none are set exactly where all of these are zero (no proof cites it: `are_zero` is a loop)
 
 pub or_all : (xs : List ℕ) (seen : ℕ) → eqb (fold bit_or seen xs) 0 ≡ eqb seen 0 && all (eqb 0) xs
 or_all [] seen = grind (arith, nat_tests)

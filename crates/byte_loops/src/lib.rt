@@ -20,13 +20,15 @@ pub fn word_bytes(n: usize) -> [u8; 2]
     ((n % 65536) as u16).to_le_bytes()
 }
 
-// Stores the bytes of `from` in `to`, from position `at` on.
-#[tactic(auto, using(crate::specs::Laws::put_mid_sets))]
+// Stores the bytes of `from` in `to`, from position `at` on. A loop: with `copy_from_slice` the archive for C would need memmove from the C
+// library.
 pub fn copy(to: &mut [u8], at: usize, from: &[u8])
     requires { at + length from.now ≤ length to.old }
     ensures { to.new ≡ sets to.old at from.now }
 {
-    to[at..at + from.len()].copy_from_slice(from);
+    for i in 0..from.len() {
+        to[at + i] = from[i];
+    }
 }
 
 // Stores one value in the positions from `at` to `end`.
@@ -38,13 +40,18 @@ pub fn fill(to: &mut [u8], at: usize, end: usize, value: u8)
     to[at..end].fill(value);
 }
 
-// Whether these bytes stand from position `at` on.
-#[tactic(auto, using(crate::specs::Laws::same_pointwise))]
+// Whether these bytes stand from position `at` on. A loop: `==` on slices compares four bytes in place and, where they are equal, all of them
+// again by a call.
 pub fn same_at(bytes: &[u8], at: usize, these: &[u8]) -> bool
     requires { at + length these.now ≤ length bytes.now }
     ensures { result ≡ same (take (length these.now) (drop at bytes.now)) these.now }
 {
-    &bytes[at..at + these.len()] == these
+    for i in 0..these.len() {
+        if bytes[at + i] != these[i] {
+            return false;
+        }
+    }
+    true
 }
 
 // Whether the bytes from position `at` to `end` all have one value.
@@ -60,5 +67,9 @@ pub fn are_zero(bytes: &[u8], at: usize, count: usize) -> bool
     requires { at + count ≤ length bytes.now }
     ensures { result ≡ all (eqb 0) (slice at (at + count) bytes.now) }
 {
-    bytes[at..at + count].iter().fold(0, |seen, b| seen | *b) == 0
+    let mut seen: u8 = 0;
+    for i in 0..count {
+        seen |= bytes[at + i];
+    }
+    seen == 0
 }

@@ -18,7 +18,8 @@ use Rattle.format.specs.Names.{letter, legal_stored}
 use Rattle.format.specs.Layout.{slots_each, Slot, empty_slot, free_slot, in_use, name_of, slot_at, slots_at, slots_of, link_of, met, directory_pointer, directory, slots, entries, find, open_slot}
 use Rattle.format.proofs.SlotLaws.{in_use_join}
 use Rattle.geometry.specs.Meaning.{geo, sectors_of, Image}
-use Rattle.disc.specs.Meaning.{meaning}
+use Rattle.disc.specs.Meaning.{meaning, Inside}
+use Rattle.disc.specs.Laws.{inside}
 use Rattle.geometry.specs.declared.Geometry as code
 use Rattle.disc.specs.declared.Link.{Link}
 use Rattle.disc.specs.declared.Link.TheVariants.{End, To, Off}
@@ -43,11 +44,11 @@ module _ {g : code.Geometry} {image : List ℕ} (im : Image g image) where
   unfolding geometry.OnDisc
   led_below l t s e n to = omega (arith, pointed_on (geo g) t s n (sym e ∙ to), im.valid.total)
 
-  -- a walk starts at the directory pointer, and can meet as many sectors as the disc has
+  -- a walk starts at the directory pointer, on its disc, and can meet as many sectors as the disc has
   pub started : (l : Link SectorNo) → meaning l ≡ directory_pointer (geo g) (sectors_of g image)
-      → met (geo g) (sectors_of g image) g.sectors (meaning l) ≡ directory (geo g) (sectors_of g image)
+      → (met (geo g) (sectors_of g image) g.sectors (meaning l) ≡ directory (geo g) (sectors_of g image)) × Inside g l
   unfolding directory
-  started l e = ap₂ (met (geo g) (sectors_of g image)) im.valid.total e
+  started l e = (ap₂ (met (geo g) (sectors_of g image)) im.valid.total e, inside im.valid l _ _ e)
 
   -- a loop over the sectors of the directory begins
   pub loop_starts : {w v : Sectors} → w ≡ v → rest_of v ≡ directory (geo g) (sectors_of g image)
@@ -59,6 +60,15 @@ module _ {g : code.Geometry} {image : List ℕ} (im : Image g image) where
 -- and goes on after sector n
 pub loop_goes : (g : code.Geometry) (w v : Sectors) {n : ℕ} → MeetsDisc g w → rest_of w ≡ n ∷ rest_of v → (n < g.sectors) × MeetsDisc g v
 loop_goes g w v on next = let more = subst (All (λ n. n < g.sectors)) next on in (head_of_all more, tail_of more)
+
+-- the link of a walk stays on its disc
+pub at_inside : (w : Sectors) → Inside w.g w.at
+at_inside w = by w.at w.inside
+  where
+    by : (l : Link SectorNo) → ((n : ℕ) → meaning l ≡ go n → n < w.g.sectors) → Inside w.g l
+    by End h = tt
+    by (To n) h = h n.0 refl
+    by Off h = tt
 
 -- every walk meets sectors of its disc
 pub walk_below : (w : Sectors) → MeetsDisc w.g w

@@ -8,7 +8,7 @@ ghost use Rattle.format.specs.Names.{legal_stored};
 ghost use Rattle.format.specs.Geometry.{Disc};
 ghost use Rattle.format.specs.Layout.{Slot, slots_at, slots, directory, find, open_slot};
 ghost use Rattle.geometry.specs.Meaning.{geo, sectors_of, Image};
-ghost use Rattle.directory.specs.Walk.{rest_of};
+ghost use Rattle.directory.specs.Walk.{Started};
 ghost use Rattle.directory.specs.Meaning.{MayAsk, Answers, first_that, found_of, Within, Finds};
 
 mod walk;
@@ -21,7 +21,7 @@ pub use walk::Sectors;
 // The sectors of the directory, in the order of its chain: no more than the disc has.
 pub fn sectors<'a>(image: &'a [u8], g: Geometry) -> Sectors<'a>
     requires { Image g image.now }
-    ensures { rest_of result ≡ directory (geo g) (sectors_of g image.now) }
+    ensures { Started g image.now result }
 {
     Sectors {
         image,

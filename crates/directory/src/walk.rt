@@ -19,6 +19,31 @@ pub struct Sectors<'a> {
     pub ghost inside: { (n : ℕ) → meaning at ≡ go n → n < g.sectors },
 }
 
+impl<'a> Sectors<'a> {
+    ghost use Rattle.std.specs.Prelude.{IfSome};
+    ghost use Rattle.std.specs.Iterator.{YieldsFirstBy};
+    ghost use Rattle.geometry.specs.declared.SectorNo.{SectorNo};
+    ghost use Rattle.directory.specs.Walk.{rest_of, Kept};
+
+    // Goes to the next sector, as `next` does, which calls it; its contract says besides that the walk stays on its disc.
+    pub fn advance(&mut self) -> Option<SectorNo>
+        ensures steps { YieldsFirstBy (λ (n : SectorNo). n.0) rest_of self.old result self.new }
+        ensures on_disc { IfSome result (λ (n : SectorNo). n.0 < self.old.g.sectors) }
+        ensures keeps { Kept self.old self.new }
+    {
+        let is_over = self.left == 0;
+        if is_over {
+            return None;
+        }
+        let Link::To(n) = self.at else {
+            return None;
+        };
+        self.at = disc::link_of(self.image, self.g, n);
+        self.left -= 1;
+        Some(n)
+    }
+}
+
 impl<'a> Iterator for Sectors<'a> {
     type Item = SectorNo;
 
@@ -31,15 +56,6 @@ impl<'a> Iterator for Sectors<'a> {
     ghost remaining = { item_count rest_of };
 
     fn next(&mut self) -> Option<SectorNo> {
-        let is_over = self.left == 0;
-        if is_over {
-            return None;
-        }
-        let Link::To(n) = self.at else {
-            return None;
-        };
-        self.at = disc::link_of(self.image, self.g, n);
-        self.left -= 1;
-        Some(n)
+        self.advance()
     }
 }

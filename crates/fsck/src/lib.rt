@@ -97,6 +97,7 @@ fn directory_broken(image: &[u8], g: Geometry, marks: &mut [u8; 800]) -> Result<
 
 // Rules 1 to 5: the lowest broken one, or how many sectors the files have. Where they hold, 0/1 and the sectors of the directory and the files
 // are marked.
+#[tactic(auto, using(crate::specs::Rules::files_stood))]
 pub fn files_stand(image: &[u8], g: Geometry, marks: &mut [u8; 800]) -> Result<usize, Rule>
     requires { Image g image.now × (marks.old ≡ no_marks) }
     ensures { Stands (geo g) (sectors_of g image.now) result marks.new }

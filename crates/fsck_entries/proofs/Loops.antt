@@ -1,5 +1,5 @@
--- Laws of loops over a name's bytes and over sectors, and of an entry's tests one after the other. The library's methods have the loops now; the laws
--- stand, though no proof cites them.
+-- Laws of loops over a name's bytes and over sectors, and of an entry's tests one after the other. `letters_end` goes by the three of a name that is
+-- padded; the library's methods have the other loops now, and their laws stand, though no proof cites them.
 -- Assumes nothing.
 use Rattle.std.specs.Prelude.{◌≡◌, ℕ, ◌+◌, ◌≤◌, ◌<◌, Bool, true, false, ◌&&◌, List, [], ◌∷◌, length}
 use Rattle.std.proofs.Math.Path.{sym, ap}

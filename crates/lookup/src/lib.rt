@@ -26,6 +26,7 @@ pub fn name_on(image: &[u8], g: Geometry, name: &[u8]) -> Result<Name, Refusal>
 }
 
 // The refusal 4: the slot of the name's entry.
+#[tactic(auto, using(crate::specs::Laws::judged))]
 pub fn slot_of(image: &[u8], g: Geometry, name: Name) -> Result<SlotNo, Refusal>
     requires { Image g image.now × (legal_stored name.bytes ≡ true) }
     ensures { Judges g image.now result (slot_on (geo g) (sectors_of g image.now) name.bytes) }

@@ -62,10 +62,10 @@ fn replay_records(image: &mut [u8], g: Geometry, list: &[u8])
     requires { Image g image.old × (is_some (held (geo g) list.now) ≡ true) }
     ensures { sectors_of g image.new ≡ replayed (geo g) list.now (sectors_of g image.old) }
 {
-    let mut left = list;
-    while let Some((first, rest)) = left.split_first_chunk() {
+    let mut unwritten = list;
+    while let Some((first, rest)) = unwritten.split_first_chunk() {
         replay_record(image, g, first);
-        left = rest;
+        unwritten = rest;
     }
 }
 

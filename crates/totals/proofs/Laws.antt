@@ -140,7 +140,7 @@ module _ (c : Credit) (was sums : List ℕ) where
   still_running r does running n =
       let did = added r does n in rw did.1 (record { long = credit_long c was ∙ running.long; low = did.0 })
 
--- ---- a sheet from its read_front on
+-- ---- a sheet from its front on
 
 record_first : (s : List ℕ) → 5 ≤ length s → credits_of s ≡ read_front (record_of (take 5 s)) (credits_of (drop 5 s))
 unfolding credits_of

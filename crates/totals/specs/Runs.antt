@@ -11,7 +11,7 @@ unfoldable pub handed_on : (totals : List ℕ) (sheets : List (List ℕ)) → Li
 handed_on ts [] = ts
 handed_on ts (s ∷ ss) = handed_on (after_sheet ts s).totals ss
 
--- "the accepted sheets": those that were told with 0
+-- "the accepted sheets": those that were answered with 0
 unfoldable pub accepted : (totals : List ℕ) (sheets : List (List ℕ)) → List (List ℕ)
 accepted ts [] = []
 accepted ts (s ∷ ss) = cons_if (eqb (after_sheet ts s).number 0) s (accepted (after_sheet ts s).totals ss)

@@ -25,12 +25,12 @@ credit_of body = record { worker = word_at body 0; pieces = word_at body 2 }
 abbrev pub is_worker : ℕ → Bool
 is_worker w = leb 1 w && leb w workers
 
--- c in read_front, where there is a list
+-- c in front, where there is a list
 abbrev pub and_then : Credit → Option (List Credit) → Option (List Credit)
 and_then c none = none
 and_then c (some cs) = some (c ∷ cs)
 
--- A record in read_front of what follows it: "kind 1, body of worker number and pieces ..; kind 2, a body of four date bytes that is skipped".
+-- A record in front of what follows it: "kind 1, body of worker number and pieces ..; kind 2, a body of four date bytes that is skipped".
 -- None: "Another kind", "a worker outside 1 to 500", "bytes after the end" where the kind is 0, or nothing good follows.
 abbrev pub in_front : (kind : ℕ) (body : List ℕ) → Option (List Credit) → Option (List Credit)
 in_front kind body cs =

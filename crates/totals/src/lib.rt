@@ -59,7 +59,8 @@ fn check_end(bytes: &[u8]) -> Result<(), Refusal>
     }
 }
 
-// Refuses what is no sheet, or no rest of one.
+// Refuses what is no sheet, or no rest of one. Not inlined: so its loop is there once, and its time does not hang on where each caller has it.
+#[inline(never)]
 #[tactic(auto, using(crate::proofs::Laws::checking))]
 fn check_sheet(sheet: &[u8]) -> Result<(), Refusal>
     ensures { result ≡ sheet_check (credits_of sheet.now) }

@@ -48,6 +48,7 @@ pub fn view_number(image: &[u8], stated: Stated, track: u32, sector: u32) -> u32
 }
 
 // Where the part starts in the image, 0 with a refusal.
+#[tactic(auto, using(crate::specs::Laws::start_is), unfolding(format::specs::Calls::view_part))]
 pub fn view_start(image: &[u8], stated: Stated, track: u32, sector: u32) -> u32
     ensures { result ≡ (view_part (kind_of stated) image.now track sector).at }
 {

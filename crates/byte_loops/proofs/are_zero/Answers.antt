@@ -1,12 +1,13 @@
 -- `byte_loops::are_zero` meets its contract.
-use Rattle.std.proofs.Common.{rules, ◌≡◌, ◌+◌, bit_or}
-use Rattle.std.specs.List.{between, fold}
-use Rattle.std.proofs.lemmas.Slice.{between_is}
-use Rattle.byte_loops.specs.Laws.{or_all}
+use Rattle.std.proofs.Common.{sym, ◌∙◌}
+use Rattle.byte_loops.proofs.Loops.{zero_start, zero_step, zero_end}
 use Rattle.byte_loops.proofs.are_zero.Goals as goal
 
+pub loop-i-init : goal.loop-i-init
+loop-i-init c = zero_start _ _ _ c.requires
+
+pub loop-i-preserved : goal.loop-i-preserved
+loop-i-preserved c = zero_step c.args.bytes.now _ _ c.requires c.loop-i.i c.loop-i.seen c.loop-i-test.true ∙ c.loop-i.invariant
+
 pub returns : goal.returns
-returns c =
-    let a = c.args in
-    let bits : c.fold.result ≡ fold bit_or 0 (between a.at (a.at + a.count) a.bytes.now) = search rules in
-    simp (bits, or_all, between_is)
+returns c = sym (zero_end c.args.bytes.now _ _ c.requires c.loop-i.i c.loop-i.seen c.loop-i-test.false) ∙ c.loop-i.invariant

@@ -6,7 +6,7 @@ use Rattle.directory.proofs.last_sector.Goals as goal
 
 pub loop-n-init : goal.loop-n-init
 loop-n-init c =
-    let start = loop_starts c.requires c.into_iter-n-iterator.ensures.into_iter_gives c.sectors-n-items.ensures in
+    let start = loop_starts c.requires c.into_iter-n-iterator.ensures.into_iter_gives c.sectors-n-items.ensures.all in
     (start.0, omega arith, ap (last_or 0) (sym start.1))
 
 pub loop-n-preserved : goal.loop-n-preserved

@@ -9,7 +9,7 @@ use Rattle.directory.proofs.search.Goals as goal
 pub loop-n-init : goal.loop-n-init
 loop-n-init g c =
     let d = sectors_of c.args.g c.args.image.now in
-    let start = loop_starts c.requires.0 c.into_iter-n-iterator.ensures.into_iter_gives c.sectors-n-items.ensures in
+    let start = loop_starts c.requires.0 c.into_iter-n-iterator.ensures.into_iter_gives c.sectors-n-items.ensures.all in
     (start.0, λ p as_p. ap (first_that p) (slots_are (geo c.args.g) d ∙ ap (slots_of d) (sym start.1)))
 
 pub search_sector-found-requires : goal.search_sector-found-requires

@@ -13,12 +13,12 @@ use Rattle.fsck_entries.proofs.entries_good.Goals as goal
 
 pub all-requires-clause-callable : goal.all-requires-clause-callable
 all-requires-clause-callable c =
-    serves_from_places (YieldsList-from_first (λ (n : SectorNo). n.0) rest_of _ c.sectors.ensures) (λ x q k. search (rules, tests))
+    serves_from_places (YieldsList-from_first (λ (n : SectorNo). n.0) rest_of _ c.sectors.ensures.all) (λ x q k. search (rules, tests))
     (λ x k on is. let below = each_below (directory_below c.requires) k x.0 on is in search rules)
 
 pub returns : goal.returns
 returns c =
     let a = c.args in
     all_from_yields_List (good_sector (geo a.g) (sectors_of a.g a.image.now)) _ _ c.all.result c.all.ensures.ran
-    (YieldsList-from_first (λ (n : SectorNo). n.0) rest_of _ c.sectors.ensures) (λ x b q k. search (rules, tests))
+    (YieldsList-from_first (λ (n : SectorNo). n.0) rest_of _ c.sectors.ensures.all) (λ x b q k. search (rules, tests))
     ∙ rule3_is _ _

@@ -11,7 +11,7 @@ use Rattle.fsck_files.proofs.all_files.Goals as goal
 pub loop-n-init : goal.loop-n-init
 unfolding directory
 loop-n-init c =
-    let start = loop_starts c.requires c.into_iter-n-iterator.ensures.into_iter_gives c.sectors-n-items.ensures in
+    let start = loop_starts c.requires c.into_iter-n-iterator.ensures.into_iter_gives c.sectors-n-items.ensures.all in
     let G = geo c.args.g in
     let d = sectors_of c.args.g c.args.image.now in
     let few = met_few G d (sectors G) (directory_pointer G d) in

@@ -8,7 +8,7 @@ use Rattle.fsck_names.proofs.directory_differs.Goals as goal
 
 pub loop-n-init : goal.loop-n-init
 loop-n-init c =
-    let start = loop_starts c.requires.0 refl c.sectors-walk.ensures in
+    let start = loop_starts c.requires.0 refl c.sectors-walk.ensures.all in
     let all = left_all _ _ _ start.1 in
     (start.0, covers_as c.requires.1 (sym all), ap differ all ∙ rule4_is _ _)
 

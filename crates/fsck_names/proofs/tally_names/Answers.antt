@@ -6,7 +6,7 @@ use Rattle.fsck_names.proofs.tally_names.Goals as goal
 
 pub loop-n-init : goal.loop-n-init
 loop-n-init c =
-    let start = loop_starts c.requires c.into_iter-n-iterator.ensures.into_iter_gives c.sectors-n-items.ensures in
+    let start = loop_starts c.requires c.into_iter-n-iterator.ensures.into_iter_gives c.sectors-n-items.ensures.all in
     (start.0, ap (tallied 16384 c.args.table.now) (left_all _ _ _ start.1))
 
 pub loop-n-preserved : goal.loop-n-preserved

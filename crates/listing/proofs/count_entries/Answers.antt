@@ -6,7 +6,7 @@ use Rattle.listing.proofs.count_entries.Goals as goal
 
 pub loop-n-init : goal.loop-n-init
 loop-n-init c =
-    let start = loop_starts c.requires c.into_iter-n-iterator.ensures.into_iter_gives c.sectors-n-items.ensures in
+    let start = loop_starts c.requires c.into_iter-n-iterator.ensures.into_iter_gives c.sectors-n-items.ensures.all in
     (start.0, omega (arith, ap length (left_all c.args.g c.args.image.now _ start.1)))
 
 pub count_sector-count-requires : goal.count_sector-count-requires

@@ -11,7 +11,7 @@ use Rattle.listing.proofs.put_entries.Goals as goal
 pub loop-n-init : goal.loop-n-init
 loop-n-init c =
     let d = sectors_of c.args.g c.args.image.now in
-    let start = loop_starts c.requires.0 c.into_iter-n-iterator.ensures.into_iter_gives c.sectors-n-items.ensures in
+    let start = loop_starts c.requires.0 c.into_iter-n-iterator.ensures.into_iter_gives c.sectors-n-items.ensures.all in
     (start.0, storing_all _ _ (ap records_of (slots_are (geo c.args.g) d ∙ ap (slots_of d) (sym start.1))))
 
 pub put_sector_records-position-requires : goal.put_sector_records-position-requires

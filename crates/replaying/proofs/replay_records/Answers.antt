@@ -1,5 +1,6 @@
 -- `replaying::replay_records` meets its contract.
-use Rattle.std.proofs.Common.{rules, arith, ◌∙◌}
+use Rattle.std.proofs.Common.{◌≡◌, ◌-◌, length, take, drop, rules, arith, ◌∙◌, length-drop}
+use Rattle.std.proofs.Math.Seq.{take-length}
 use Rattle.geometry.specs.Meaning.{geo, sectors_of}
 use Rattle.geometry.specs.Laws.{image_kept}
 use Rattle.replaying.specs.Laws.{on_record, on_rest, on_replayed, end_replayed}
@@ -12,16 +13,14 @@ replay_record-requires c =
 
 pub loop-first-preserved : goal.loop-first-preserved
 loop-first-preserved c =
-    let a = c.args in
-    let G = geo a.g in
+    let G = geo c.args.g in
     let cut = c.in-Some.ensures.cases in
-    record {
-      kept = search rules;
-      list_is = rw cut.1 (on_rest G _ (omega arith) c.loop-first.invariant.list_is);
-      sectors_are =
-          rw cut.1 (on_replayed G _ (omega arith) c.loop-first.invariant.list_is _ _ (rw cut.0 at c.replay_record.ensures))
-          ∙ c.loop-first.invariant.sectors_are;
-    }
+    let l = c.loop-first in
+    let more = on_rest G l.unwritten.now (omega arith) l.invariant.list_is in
+    let wrote = on_replayed G l.unwritten.now (omega arith) l.invariant.list_is _ _ (rw cut.0 at c.replay_record.ensures) ∙ l.invariant.sectors_are in
+    let whole : take (length l.unwritten.now - 259) (drop 259 l.unwritten.now) ≡ drop 259 l.unwritten.now =
+    rw (← length-drop 259 l.unwritten.now) (take-length (drop 259 l.unwritten.now)) in
+    record { kept = search rules; list_is = search (rules, cut.1, whole, more); sectors_are = search (rules, cut.1, whole, wrote) }
 
 pub returns : goal.returns
 returns c =

@@ -9,9 +9,9 @@ use Rattle.replaying.proofs.replay_records.Given as goal
 abbrev pub invariant-loop-first : goal.invariant-loop-first
 invariant-loop-first l = record {
   kept : length l.image ≡ length l.initial.image;
-  list_is : is_some (held (geo l.g) l.left) ≡ true;
-  sectors_are : replayed (geo l.g) l.left (sectors_of l.g l.image) ≡ replayed (geo l.g) l.list (sectors_of l.g l.initial.image);
+  list_is : is_some (held (geo l.g) l.unwritten) ≡ true;
+  sectors_are : replayed (geo l.g) l.unwritten (sectors_of l.g l.image) ≡ replayed (geo l.g) l.list (sectors_of l.g l.initial.image);
 }
 
 abbrev pub decreases-loop-first : goal.decreases-loop-first
-decreases-loop-first l = length l.left
+decreases-loop-first l = length l.unwritten

@@ -1,6 +1,5 @@
 -- `saving::vacancy_for` meets its contract.
-use Rattle.std.proofs.Common.{eqb-true, sym, ap, ◌∙◌}
-use Rattle.format.specs.Refusals.{ok}
+use Rattle.std.proofs.Common.{rules, eqb-true, sym, ◌∙◌}
 use Rattle.soundness.specs.WriteFacts.{savable}
 use Rattle.saving.specs.Orders.{found_some, vacancy_taken, vacancy_room, vacancy_open}
 use Rattle.saving.proofs.vacancy_for.Goals as goal
@@ -20,4 +19,5 @@ pub returns : goal.returns
 returns c =
     let fresh = found_some _ _ c.find.ensures.slot ∙ sym c.is_some.ensures ∙ c.if-is_some.false in
     let vacant = vacancy_open _ _ _ _ fresh _ c.sectors_for.ensures (sym c.has_room.ensures ∙ c.if-not-has_room.false) in
-    (vacant ∙ ap ok (sym c.open_slot-slot.ensures.slot), c.open_slot-slot.ensures.within)
+    let found = c.open_slot-slot.ensures in
+    search (rules, vacant, found.slot, found.within)
