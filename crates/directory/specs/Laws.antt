@@ -13,17 +13,17 @@ use Rattle.lists.specs.ListLaws.{All, head_of_all, tail_of, and_true, filter_joi
 use Rattle.format.specs.Geometry.{Geometry, sectors, Next, stop, go, off, pointed, Disc, sector}
 use Rattle.format.specs.GeometryLaws as geometry
 use Rattle.format.proofs.GeometryLaws.{pointed_on}
-use Rattle.format.proofs.ChainLaws.{met_stop, met_off, met_none, met_go, met_below}
+use Rattle.format.proofs.ChainLaws.{met_stop, met_off, met_go, met_below}
 use Rattle.format.specs.Names.{letter, legal_stored}
 use Rattle.format.specs.Layout.{slots_each, Slot, empty_slot, free_slot, in_use, name_of, slot_at, slots_at, slots_of, link_of, met, directory_pointer, directory, slots, entries, find, open_slot}
-use Rattle.format.proofs.SlotLaws.{in_use_join}
 use Rattle.geometry.specs.Meaning.{geo, sectors_of, Image}
 use Rattle.disc.specs.Meaning.{meaning, Inside}
 use Rattle.disc.specs.Laws.{inside}
 use Rattle.geometry.specs.declared.Geometry as code
 use Rattle.disc.specs.declared.Link.{Link}
 use Rattle.disc.specs.declared.Link.TheVariants.{End, To, Off}
-use Rattle.slots.specs.InOrder.{slots_from, slots_all, slots_next}
+use Rattle.slots.specs.InOrder.{slots_from, slots_next}
+use Rattle.directory.specs.Ahead as wide
 use Rattle.directory.specs.Walk.{rest_of}
 use Rattle.directory.specs.Meaning.{entries_left, MeetsDisc, first_that, found_of, Within}
 use Rattle.geometry.specs.declared.SectorNo.{SectorNo}
@@ -82,15 +82,15 @@ walk_below w =
 module _ (w : Sectors) where
   pub rest_none : w.left ≡ 0 → rest_of w ≡ []
   unfolding rest_of
-  rest_none e = ap (λ (k : ℕ). met (geo w.g) (sectors_of w.g w.image.now) k (meaning w.at)) e ∙ met_none _ _ _
+  rest_none e = wide.rest_none w.g w.image.now w.at w.left e
 
   pub rest_stop : meaning w.at ≡ stop → rest_of w ≡ []
   unfolding rest_of
-  rest_stop e = ap (met (geo w.g) (sectors_of w.g w.image.now) w.left) e ∙ met_stop _ _ _
+  rest_stop e = wide.rest_stop w.g w.image.now w.at w.left e
 
   pub rest_off : meaning w.at ≡ off → rest_of w ≡ []
   unfolding rest_of
-  rest_off e = ap (met (geo w.g) (sectors_of w.g w.image.now) w.left) e ∙ met_off _ _ _
+  rest_off e = wide.rest_off w.g w.image.now w.at w.left e
 
 -- a walk of k sectors from a link
 module _ (G : Geometry) (d : Disc) (k : ℕ) (l : Link SectorNo) where
@@ -127,22 +127,17 @@ slots_are G d = refl
 
 module _ (g : code.Geometry) (image : List ℕ) where
   pub left_all : (w : Sectors) → rest_of w ≡ directory (geo g) (sectors_of g image) → entries_left g image w ≡ entries (geo g) (sectors_of g image)
-  unfolding entries_left entries slots
-  left_all w e = ap (λ (ns : List ℕ). in_use (slots_of (sectors_of g image) ns)) e
+  unfolding entries_left
+  left_all w e = wide.entries_all (sectors_of g image) (geo g) e
 
   pub left_met : (w v : Sectors) (n : ℕ) → rest_of w ≡ n ∷ rest_of v
       → entries_left g image w ≡ in_use (slots_from (sectors_of g image) n 0) ++ entries_left g image v
   unfolding entries_left
-  left_met w v n e =
-      let d : Disc = sectors_of g image in
-      ap (λ (ns : List ℕ). in_use (slots_of d ns)) e
-      ∙ ap in_use (slots_cons d n (rest_of v))
-      ∙ in_use_join (slots_at d n) (slots_of d (rest_of v))
-      ∙ ap (λ (ss : List Slot). in_use ss ++ in_use (slots_of d (rest_of v))) (slots_all d n)
+  left_met w v n e = wide.entries_met (sectors_of g image) e
 
 pub left_over : (g : code.Geometry) (image : List ℕ) (w : Sectors) → rest_of w ≡ [] → entries_left g image w ≡ []
-unfolding entries_left slots_of in_use
-left_over g image w e = ap (λ (ns : List ℕ). in_use (slots_of (sectors_of g image) ns)) e
+unfolding entries_left
+left_over g image w e = wide.entries_none (sectors_of g image) e
 
 -- ---- the first that passes a test
 

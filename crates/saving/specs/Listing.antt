@@ -13,7 +13,7 @@ use Rattle.lists.specs.Lists.{times, last_or}
 use Rattle.lists.specs.ListLaws.{All}
 use Rattle.format.specs.Refusals.{ok}
 use Rattle.format.specs.Geometry.{Disc, written}
-use Rattle.format.specs.Layout.{slot_at, met, free_pointer, directory, free, open_slot}
+use Rattle.format.specs.Layout.{Slot, met, free_pointer, directory, free, open_slot}
 use Rattle.format.specs.Modules.{Module, sectors_for}
 use Rattle.format.proofs.ModuleLaws.{sectors_fit}
 use Rattle.format.specs.Effects.{head_of, needed, save_writes}
@@ -30,7 +30,6 @@ use Rattle.soundness.specs.ListedWrites.{file_taken, all_taken, file_long, save_
 use Rattle.soundness.specs.SavedList.{saved_chain, targets_open, targets_grown, saved_many}
 use Rattle.refusals.specs.declared.Refusal.TheVariants.{Short}
 use Rattle.slots.specs.declared.slot_no.SlotNo.{SlotNo}
-use Rattle.slots.specs.Meaning.{slot_of}
 use Rattle.directory.specs.Meaning.{found_of}
 use Rattle.answers.specs.Meaning.{Lists}
 use Rattle.writes.specs.Meaning.{front_of, Walks, Copied}
@@ -60,10 +59,15 @@ module _ {g : Geometry} {image : List ℕ} (nine : List ℕ) (m : Module) (y : R
   once = save_once (geo g) (sectors_of g image) y.savable nine m y.enough
 
   -- how many writes there are
+  many_open : (s : Slot) → open_slot (geo g) (sectors_of g image) ≡ some s
+      → length (save_writes (geo g) (sectors_of g image) nine m) ≡ sectors_for (length m.bytes) + 2
+  unfolding needed
+  many_open s o = omega (arith, saved_many (geo g) (sectors_of g image) nine m y.enough, growth_some (geo g) (sectors_of g image) s o)
+
   many : (to : found.Option SlotNo) → open_slot (geo g) (sectors_of g image) ≡ found_of (sectors_of g image) to
       → length (save_writes (geo g) (sectors_of g image) nine m) ≡ sectors_for (length m.bytes) + cond (is_some to) 2 3
   unfolding needed
-  many (Some s) o = omega (arith, saved_many (geo g) (sectors_of g image) nine m y.enough, growth_some (geo g) (sectors_of g image) _ o)
+  many (Some s) o = many_open _ o
   many None o = omega (arith, saved_many (geo g) (sectors_of g image) nine m y.enough, growth_none (geo g) (sectors_of g image) o)
 
   -- no room for the list
@@ -108,13 +112,13 @@ module _ {g : Geometry} {image : List ℕ} (nine : List ℕ) (m : Module) (y : R
         }
 
     module _ (lent : List ℕ) {buffer : List ℕ} {r : ℕ} where
-      pub open_listed : (s : SlotNo) → open_slot (geo g) (sectors_of g image) ≡ some (slot_of (sectors_of g image) s) → list_size (count + 2) ≤ length lent
-          → Copied g after (front_of g after first count ++ s.sector.0 ∷ []) lent buffer r
+      pub open_listed : (s : Slot) → open_slot (geo g) (sectors_of g image) ≡ some s → list_size (count + 2) ≤ length lent
+          → Copied g after (front_of g after first count ++ s.home ∷ []) lent buffer r
           → Lists g image after lent buffer (Ok r) (ok (save_writes (geo g) (sectors_of g image) nine m))
-      unfolding file slot_at
+      unfolding file
       open_listed s o room c =
-          listed_done lent y.image_of _ whole once (omega (arith, many (Some s) o)) is
-          (ap (λ (ns : List ℕ). 0 ∷ ns ++ s.sector.0 ∷ []) chain_is ∙ sym (targets_open (geo g) (sectors_of g image) nine m y.enough _ o)) c
+          listed_done lent y.image_of _ whole once (omega (arith, many_open s o)) is
+          (ap (λ (ns : List ℕ). 0 ∷ ns ++ s.home ∷ []) chain_is ∙ sym (targets_open (geo g) (sectors_of g image) nine m y.enough s o)) c
 
       pub grown_listed : open_slot (geo g) (sectors_of g image) ≡ none → {new last : ℕ} → new ≡ last_or 0 (all_taken (geo g) (sectors_of g image) m)
           → last ≡ last_or 0 (directory (geo g) (sectors_of g image)) → list_size (count + 3) ≤ length lent

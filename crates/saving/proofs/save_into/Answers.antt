@@ -1,7 +1,7 @@
 -- `saving::save_into` meets its contract.
 use Rattle.std.proofs.Common.{arith, eqb-true, ◌≡◌, refl, ◌+◌, ◌<◌, ◌≤◌, length, ap, ◌∙◌, subst, cond, is_some}
 use Rattle.std.specs.declared.option.Option.{Option}
-use Rattle.format.specs.Layout.{open_slot}
+use Rattle.format.specs.Layout.{slot_at, open_slot}
 use Rattle.format.specs.Writes.{list_size}
 use Rattle.soundness.specs.WriteFacts.{savable}
 use Rattle.geometry.specs.Meaning.{geo, sectors_of}
@@ -79,12 +79,13 @@ put_grown-requires c =
     )
 
 pub returns-in-Some : goal.returns-in-Some
+unfolding slot_at
 returns-in-Some c =
     let a = c.args in
     let start = (goal.at.returns-in-Some c).Start in
     lists_as a.g a.image.now a.list.now (save_ok _ _ _ _ _ c.requires.3.0)
     (open_listed a.name.bytes _ (ready start) _ c.save_in_slot.ensures c.system_of-first.result.pointer c.system_of-first.ensures.leads _
-    c.sectors_for-count.ensures a.list.now c.in-Some.slot (slot_is start c.in-Some.is).0
+    c.sectors_for-count.ensures a.list.now _ (slot_is start c.in-Some.is).0
     (room (goal.at.returns-in-Some c).Else-list-list_size c.in-Some.is) c.put_saved.ensures)
 
 pub returns-in-None : goal.returns-in-None
